@@ -1,0 +1,4 @@
+pub mod Words
+pub mod Trees
+pub mod Fronts
+pub mod Laws
