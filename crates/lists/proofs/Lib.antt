@@ -1,0 +1,6 @@
+pub mod Cutting
+pub mod Firsts
+pub mod Numbering
+pub mod Lining
+pub mod Judging
+pub mod Wording
