@@ -19,7 +19,7 @@ use Rattle.lists.specs.declared.refusal.Refusal.the-variants.{LineBroken, Line
 use Rattle.lists.specs.Texts.{Reading}
 use Rattle.lists.specs.declared.parts.Head.{Head}
 use Rattle.lists.specs.declared.refusal.Place.the-variants as place
-use Rattle.lists.specs.Lines.{Sides, Answers, judgeLines, lastLabel, headLine, tableLine, withForms, judgeForms, judgeRules, judgeHeader, judgeTable}
+use Rattle.lists.specs.Lines.{Sides, Answers, judgeLines, lastFrom, lastLabel, headLine, tableLine, withForms, judgeForms, judgeRules, judgeHeader, judgeTable}
 
 module _ {X : Type 0} (at : ℕ → Place) (reads : List X → Reading → Option X) (read : List X) (i : ℕ) (read-i : length read ≡ i) where
   abbrev judged : ℕ → List Reading → Result (List X) Refusal
@@ -47,10 +47,12 @@ module _ {X : Type 0} (at : ℕ → Place) (reads : List X → Reading → Optio
   unfolding judgeLines
   line-read n m all r rs x s e has = rw (s, e) (rw (has, judgeLines))
 
+pub last-from : (before : ℕ) (fs : List Form) (f : Form) → lastFrom before (fs ++ f ∷ []) ≡ f .label
+last-from before [] f = refl
+last-from before (g ∷ fs) f = last-from (g .label) fs f
+
 pub last-label : (fs : List Form) (f : Form) → lastLabel (fs ++ f ∷ []) ≡ f .label
-last-label [] f = refl
-last-label (g ∷ []) f = refl
-last-label (g ∷ h ∷ fs) f = last-label (h ∷ fs) f
+last-label fs f = last-from 0 fs f
 
 pub no-header : (rs : List Reading) → rs ≡ [] → judgeHeader rs ≡ Err (LineMissing place.Head)
 unfolding judgeHeader

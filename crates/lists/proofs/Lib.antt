@@ -4,3 +4,11 @@ pub mod Numbering
 pub mod Lining
 pub mod Judging
 pub mod Wording
+pub mod Scanning
+pub mod Faulting
+pub mod Answering
+pub mod Keeping
+pub mod Patterns
+pub mod Rising
+pub mod Faultless
+pub mod Accepting

@@ -47,5 +47,5 @@ rule-is k (x ∷ []) l n a1 a9 b1 b64 f = absurd (omega arith)
 rule-is k (x ∷ a ∷ []) l n a1 a9 b1 b64 f = absurd (omega arith)
 rule-is k (x ∷ a ∷ b ∷ ns) l n a1 a9 b1 b64 f =
     let tests : (eqb x k && within 1 9 a && within 1 64 b && eqb (length ns) (2 * (a + b))) ≡ true =
-      and-from _ _ (and-from _ _ (and-from _ _ (eq-eqb x k n) (and-from _ _ (le-leb 1 a a1) (le-leb a 9 a9))) (and-from _ _ (le-leb 1 b b1) (le-leb b 64 b64))) (eq-eqb _ _ f) in
+    and-from _ _ (and-from _ _ (and-from _ _ (eq-eqb x k n) (and-from _ _ (le-leb 1 a a1) (le-leb a 9 a9))) (and-from _ _ (le-leb 1 b b1) (le-leb b 64 b64))) (eq-eqb _ _ f) in
     rw tests

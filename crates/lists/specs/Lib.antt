@@ -2,3 +2,8 @@ pub mod Texts
 pub mod Pieces
 pub mod Refusals
 pub mod Lines
+pub mod Sides
+pub mod Sound
+pub mod Acceptance
+pub mod Held
+pub mod Spelling

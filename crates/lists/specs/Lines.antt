@@ -56,11 +56,13 @@ headLine r = andThen (numbersOf word.Head r) headOf
 abbrev pub owned : ℕ → ℕ → Bool
 owned k label = within (32 + 32 * k) (63 + 32 * k) label
 
--- the label of the last form, 0 before the first
+-- the label of the last form, or the one before if there is none
+abbrev pub lastFrom : ℕ → List Form → ℕ
+lastFrom before [] = before
+lastFrom before (f ∷ fs) = lastFrom (f .label) fs
+
 abbrev pub lastLabel : List Form → ℕ
-lastLabel [] = 0
-lastLabel (f ∷ []) = f .label
-lastLabel (f ∷ g ∷ fs) = lastLabel (g ∷ fs)
+lastLabel forms = lastFrom 0 forms
 
 -- form,LABEL,COUNT: a label that layer k owns, higher than the one before, and 0 to 8 children
 abbrev pub formOf : ℕ → ℕ → List ℕ → Option Form
@@ -149,8 +151,9 @@ unfoldable pub judgeTable : Head → List Reading → Result (List Sides) Refusa
 judgeTable h [] = Err (LineMissing place.Table)
 judgeTable h (r ∷ rs) =
     elim (tableLine r) [
-      None ↦ Err (LineBroken place.Table)
-    | Some t ↦ elim (eqb (t .0) (h .layer) && eqb (t .1) (h .rules)) [ false ↦ Err TableDiffers | true ↦ judgeRules [] (h .rules) rs ] ]
+      | None ↦ Err (LineBroken place.Table)
+      | Some t ↦ elim (eqb (t .0) (h .layer) && eqb (t .1) (h .rules)) [ false ↦ Err TableDiffers | true ↦ judgeRules [] (h .rules) rs ]
+    ]
 
 -- a call that reads: its answer is the one that the rules give, or there was no memory
 abbrev pub Answers : {X Y : Type 0} → (X → Y) → Result Y Refusal → Result X Refusal → Type 0

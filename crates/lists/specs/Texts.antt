@@ -83,14 +83,18 @@ unfoldable pub said : List ℕ → Reading
 unfolding behind numbered
 said bs =
     elim (behind (codes "head,") bs) [
-      Some fields ↦ numbered head-line fields
-    | None ↦ elim (behind (codes "form,") bs) [
-      Some fields ↦ numbered form-line fields
-    | None ↦ elim (behind (codes "table,") bs) [
-      Some fields ↦ numbered table-line fields
-    | None ↦ elim (behind (codes "rule,") bs) [
-      Some fields ↦ numbered rule-line fields
-    | None ↦ broken-line ] ] ] ]
+      | Some fields ↦ numbered head-line fields
+      | None ↦ elim (behind (codes "form,") bs) [
+        | Some fields ↦ numbered form-line fields
+        | None ↦ elim (behind (codes "table,") bs) [
+          | Some fields ↦ numbered table-line fields
+          | None ↦ elim (behind (codes "rule,") bs) [
+            | Some fields ↦ numbered rule-line fields
+            | None ↦ broken-line
+          ]
+        ]
+      ]
+    ]
 
 -- a line without byte 10 at its end is broken
 unfoldable pub reading : TextLine → Reading

@@ -38,7 +38,11 @@ fn fields_of(line: Option<Line<'_>>, word: Word) -> Option<&[u8]>
 }
 
 // The numbers of a line that begins with the word; none if it doesn't, or is broken.
-pub(crate) fn line_numbers(heap: Global, line: Piece<'_>, word: Word) -> Result<Option<Vec<u32>>, AllocError>
+pub(crate) fn line_numbers(
+    heap: Global,
+    line: Piece<'_>,
+    word: Word,
+) -> Result<Option<Vec<u32>>, AllocError>
     ensures { λ r. ⌜ made r (λ v. mapped vec-items v ≡ numbersOf word (lineSays (line .entry))) ⌝ }
 {
     match fields_of(first_field(line), word) {
@@ -48,9 +52,13 @@ pub(crate) fn line_numbers(heap: Global, line: Piece<'_>, word: Word) -> Result<
 }
 
 const FIRST_LAYER: u32 = 1;
+
 const LAST_LAYER: u32 = 6;
+
 const MOST_FORMS: u32 = 32;
+
 const MOST_RULES: u32 = 32;
+
 const MOST_CHILDREN: u32 = 8;
 // Layer k owns LABELS labels, from LABELS + LABELS × k on.
 const LABELS: u32 = 32;
@@ -68,7 +76,11 @@ fn head_from(numbers: &[u32]) -> Option<Head>
     if forms < 1 || forms > MOST_FORMS || rules < 1 || rules > MOST_RULES {
         return None;
     }
-    Some(Head { layer, forms, rules })
+    Some(Head {
+        layer,
+        forms,
+        rules,
+    })
 }
 
 // Whether layer k, from 1 to 6, owns the label.

@@ -10,6 +10,7 @@ use std::alloc::AllocError;
 use std::alloc::Global;
 
 const MOST_DIGITS: usize = 8;
+
 const LARGEST: u32 = 16_777_215;
 
 // The value of a digit.

@@ -51,15 +51,23 @@ pub struct Fault {
 }
 
 const TEXT_TOO_LONG: u32 = 10;
+
 const LINE_BROKEN: u32 = 11;
+
 const LINE_COUNT: u32 = 12;
+
 const WRONG_SHAPE: u32 = 13;
+
 const WRONG_VARIABLES: u32 = 14;
+
 const OVERLAP: u32 = 15;
+
 const NO_RULE: u32 = 16;
+
 const NO_MEMORY: u32 = 19;
 // Every refusal of a list has this layer.
 const ACCEPTANCE: u32 = 9;
+
 const TABLE_PLACES: u64 = 1000;
 
 impl Place {
@@ -93,7 +101,11 @@ impl Refusal {
             Refusal::NoRule(form) => (NO_RULE, Place::Form(form).number()),
             Refusal::NoMemory => (NO_MEMORY, 0),
         };
-        Fault { cause, layer: ACCEPTANCE, place }
+        Fault {
+            cause,
+            layer: ACCEPTANCE,
+            place,
+        }
     }
 }
 

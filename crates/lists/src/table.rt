@@ -21,11 +21,17 @@ use std::alloc::AllocError;
 use std::alloc::Global;
 
 const FIRST_LAYER: u32 = 1;
+
 const LAST_LAYER: u32 = 6;
+
 const MOST_RULES: u32 = 32;
+
 const MOST_LEFT: u32 = 9;
+
 const MOST_RIGHT: u32 = 64;
+
 const LAST_LABEL: u32 = 255;
+
 const LABEL_UNIT: u32 = 16_777_216;
 
 // The layer and the number of rules that the table's first line declares.
@@ -73,7 +79,11 @@ fn words_from(heap: Global, fields: &[u32]) -> Result<Option<Vec<u32>>, AllocErr
         words.push(word)?;
         rest = &rest[2..];
     }
-    if rest.is_empty() { Ok(Some(words)) } else { Ok(None) }
+    if rest.is_empty() {
+        Ok(Some(words))
+    } else {
+        Ok(None)
+    }
 }
 
 // The fields of the left and of the right side of rule k, if the numbers of its line are in their ranges.

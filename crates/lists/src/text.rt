@@ -57,9 +57,17 @@ pub(crate) fn cut(text: &[u8], separator: Separator) -> Piece<'_>
     let size = piece_len(text, separator);
     let bytes = &text[0..size];
     if size == text.len() {
-        return Piece { bytes, ended: false, rest: &text[size..] };
+        return Piece {
+            bytes,
+            ended: false,
+            rest: &text[size..],
+        };
     }
-    Piece { bytes, ended: true, rest: &text[size + 1..] }
+    Piece {
+        bytes,
+        ended: true,
+        rest: &text[size + 1..],
+    }
 }
 
 // The next line of a text; none at its end.

@@ -12,7 +12,7 @@ use Rattle.std.specs.Results.{isOk}
 use Rattle.terms.specs.declared.words.Node.{Node}
 use Rattle.terms.specs.declared.words.Node.the-variants.{Atom, Variable, Body, Head, Form}
 use Rattle.terms.specs.declared.front.Broken.{Broken}
-use Rattle.terms.specs.Words.{nodeOf, arityOf}
+use Rattle.terms.specs.Words.{nodeOf}
 
 -- how many children the node wants, if it may stand: a variable stands only where variables may
 abbrev pub wants : Bool → Option Node → Option ℕ
@@ -39,7 +39,7 @@ unfoldable pub wholly : Bool → List ℕ → Result (Unit {0}) Broken
 wholly variables ws = elim (ending variables 1 ws) [ Err b ↦ Err b | Ok end ↦ cond (eqb end (length ws)) (Ok tt) (Err (record { place = end })) ]
 
 -- the run is one tree, in which variables may stand
-unfoldable pub isTree : List ℕ → Bool
+abbrev pub isTree : List ℕ → Bool
 isTree ws = isOk (wholly true ws)
 
 -- where a stretch of the run begins and how many words it has
@@ -47,18 +47,16 @@ pub record Stretch : Type 0 where
   pub place : ℕ
   pub length : ℕ
 
-stretchAt : ℕ → Result ℕ Broken → Option Stretch
+abbrev pub stretchAt : ℕ → Result ℕ Broken → Option Stretch
 stretchAt place (Ok size) = Some (record { place = place; length = size })
 stretchAt place (Err b) = None
 
--- child i of the node in front of ws: behind i terms stands one more
-childBehind : ℕ → List ℕ → Result ℕ Broken → Option Stretch
-unfolding stretchAt
-childBehind i ws (Ok skipped) = stretchAt (1 + skipped) (ending false 1 (drop skipped ws))
-childBehind i ws (Err b) = None
+-- the child that stands behind the terms before it, by where those end in the words behind the node
+abbrev pub childBehind : List ℕ → Result ℕ Broken → Option Stretch
+childBehind ws (Ok skipped) = stretchAt (1 + skipped) (ending false 1 (drop skipped ws))
+childBehind ws (Err b) = None
 
 -- child i of the node that the run begins with, from 0
-unfoldable pub childAt : ℕ → List ℕ → Option Stretch
-unfolding childBehind
+abbrev pub childAt : ℕ → List ℕ → Option Stretch
 childAt i [] = None
-childAt i (w ∷ ws) = elim (wants false (nodeOf w)) [ None ↦ None | Some n ↦ cond (ltb i n) (childBehind i ws (ending false i ws)) None ]
+childAt i (w ∷ ws) = elim (wants false (nodeOf w)) [ None ↦ None | Some n ↦ cond (ltb i n) (childBehind ws (ending false i ws)) None ]

@@ -1,7 +1,7 @@
 -- The laws of terms, in the words of the subject.
 use mathlib.Core.Path.{_≡_}
 use mathlib.Core.Bool.{Bool, true, false}
-use mathlib.Core.List.{List, [], _∷_, _++_}
+use mathlib.Core.List.{List, _++_}
 use Prim.Native.Nat.{ℕ, _+_, _≤_, _<_}
 use denote.Ref.{RefT}
 use lib.ListN.{length, take, drop}
@@ -10,7 +10,7 @@ use Rattle.std.specs.declared.option.Option.the-variants.{Some, None}
 use Rattle.std.specs.declared.result.Result.{Result}
 use Rattle.std.specs.declared.result.Result.the-variants.{Ok, Err}
 use Rattle.terms.specs.declared.front.Broken.{Broken}
-use Rattle.terms.specs.Trees.{Tree, Trees, none, more, count, written, writtenAll, WellMade, WellMadeAll, WellFormed, read, bare, Unmarked, nth, childrenOf}
+use Rattle.terms.specs.Trees.{Tree, Trees, none, more, written, writtenAll, WellMade, WellMadeAll, WellFormed, read, bare, Unmarked, nth, childrenOf}
 use Rattle.terms.specs.Fronts.{Stretch, childAt}
 
 -- writing and then reading gives the same trees
@@ -29,25 +29,25 @@ One-term-a-run = (t u : Tree) → WellFormed t → WellFormed u → written t �
 abbrev pub Marks-come-off : Type 0
 Marks-come-off = ((t : Tree) → Unmarked (bare t)) × ((t : Tree) → WellFormed t → WellFormed (bare t)) × ((t : Tree) → Unmarked t → bare t ≡ t)
 
--- some well-formed term begins with the first n words of the run
-abbrev pub Begins : List ℕ → ℕ → Type 0
-Begins ws n = (t : Tree) × (rest : List ℕ) × WellFormed t × (written t ≡ take n ws ++ rest)
+-- some well-made tree begins with the first n words of the run
+abbrev pub Begins : Bool → List ℕ → ℕ → Type 0
+Begins variables ws n = (t : Tree) × (rest : List ℕ) × WellMade t variables × (written t ≡ take n ws ++ rest)
 
--- the first n words are the longest front of the run with which some well-formed term begins
-pub record LongestFront (ws : List ℕ) (n : ℕ) : Type 0 where
+-- the first n words are the longest front of the run with which some well-made tree begins
+pub record LongestFront (variables : Bool) (ws : List ℕ) (n : ℕ) : Type 0 where
   pub within : n ≤ length ws
-  pub begins : Begins ws n
-  pub longest : (m : ℕ) → n < m → m ≤ length ws → Begins ws m → ⊥
+  pub begins : Begins variables ws n
+  pub longest : (m : ℕ) → n < m → m ≤ length ws → Begins variables ws m → ⊥
 
--- the run begins with one well-formed term, of so many words; or it is refused behind its longest front
-abbrev pub Ends : List ℕ → Result ℕ Broken → Type 0
-Ends ws (Ok end) = (t : Tree) × WellFormed t × (end ≤ length ws) × (written t ≡ take end ws)
-Ends ws (Err b) = LongestFront ws (b .place) × ((t : Tree) (n : ℕ) → WellFormed t → written t ≡ take n ws → ⊥)
+-- the run begins with one well-made tree, of so many words; or it is refused behind its longest front
+abbrev pub Ends : Bool → List ℕ → Result ℕ Broken → Type 0
+Ends variables ws (Ok end) = (t : Tree) × WellMade t variables × (end ≤ length ws) × (written t ≡ take end ws)
+Ends variables ws (Err b) = LongestFront variables ws (b .place) × ((t : Tree) (n : ℕ) → WellMade t variables → written t ≡ take n ws → ⊥)
 
--- the run is the writing of one well-formed term; or it is the writing of none, and is refused behind its longest front
-abbrev pub Whole : List ℕ → Result (Unit {0}) Broken → Type 0
-Whole ws (Ok x) = (t : Tree) × WellFormed t × (written t ≡ ws)
-Whole ws (Err b) = LongestFront ws (b .place) × ((t : Tree) → WellFormed t → written t ≡ ws → ⊥)
+-- the run is the writing of one well-made tree; or it is the writing of none, and is refused behind its longest front
+abbrev pub Whole : Bool → List ℕ → Result (Unit {0}) Broken → Type 0
+Whole variables ws (Ok x) = (t : Tree) × WellMade t variables × (written t ≡ ws)
+Whole variables ws (Err b) = LongestFront variables ws (b .place) × ((t : Tree) → WellMade t variables → written t ≡ ws → ⊥)
 
 -- the run is the writing of one tree, in which variables may stand; or of none
 abbrev pub OneTree : List ℕ → Bool → Type 0

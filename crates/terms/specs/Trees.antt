@@ -66,7 +66,7 @@ first zero ts = Some (none, ts)
 first (suc n) none = None
 first (suc n) (more t ts) = elim (first n ts) [ None ↦ None | Some p ↦ Some (more t (p .0), p .1) ]
 
-inHead : ℕ → ℕ → Trees → Trees → Option Trees
+unfoldable pub inHead : ℕ → ℕ → Trees → Trees → Option Trees
 inHead k r ds none = None
 inHead k r ds (more t ts) = Some (more (head k r ds t) ts)
 

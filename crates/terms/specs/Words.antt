@@ -1,5 +1,5 @@
 -- One word: its label and payload, and the node that it stands for.
-use mathlib.Core.Bool.{Bool, true, false, cond, _&&_}
+use mathlib.Core.Bool.{Bool, cond, _&&_}
 use Prim.Native.Nat.{ℕ, _+_, _*_, _/_, _%_}
 use lib.Dec.{eqb, leb, ltb}
 use Rattle.std.specs.declared.option.Option.{Option}

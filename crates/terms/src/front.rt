@@ -14,8 +14,10 @@ pub struct Broken {
 }
 
 // How many children the word wants; none if it cannot stand. A variable stands only where variables may.
+// The law is that of `argument`, which takes it from here at each of its returns behind this call.
 fn wanted_by(word: u32, variables: bool) -> Option<u64>
-    ensures { λ r. ⌜ r ≡ wants variables (nodeOf word) ⌝ }
+    ensures value { λ r. ⌜ r ≡ wants variables (nodeOf word) ⌝ }
+    ensures law { λ _. ⌜ Children-are-found ⌝ }
 {
     match decode(word)? {
         Node::Variable { .. } if !variables => None,
@@ -25,7 +27,8 @@ fn wanted_by(word: u32, variables: bool) -> Option<u64>
 
 // Where the first trees of the run end, if so many are there.
 fn trees_end(words: &[u32], trees: usize, variables: bool) -> Result<usize, Broken>
-    ensures { λ r. ⌜ r ≡ ending variables trees (now (words .entry)) ⌝ }
+    ensures value { λ r. ⌜ r ≡ ending variables trees (now (words .entry)) ⌝ }
+    ensures law { λ r. ⌜ (trees ≡ 1 → Ends variables (now (words .entry)) r) ⌝ }
 {
     // A word wants at most nine, so that this count holds for a run of any length.
     let mut wanted = trees as u128;
@@ -47,7 +50,8 @@ fn trees_end(words: &[u32], trees: usize, variables: bool) -> Result<usize, Brok
 
 // A run that is one tree, with nothing behind it.
 fn one_tree(words: &[u32], variables: bool) -> Result<(), Broken>
-    ensures { λ r. ⌜ r ≡ wholly variables (now (words .entry)) ⌝ }
+    ensures value { λ r. ⌜ r ≡ wholly variables (now (words .entry)) ⌝ }
+    ensures law { λ r. ⌜ Whole variables (now (words .entry)) r ⌝ }
 {
     let end = trees_end(words, 1, variables)?;
     if end == words.len() {
@@ -60,7 +64,7 @@ fn one_tree(words: &[u32], variables: bool) -> Result<(), Broken>
 // Where the term at the front of the run ends.
 pub fn end(words: &[u32]) -> Result<usize, Broken>
     ensures value { λ r. ⌜ r ≡ ending false 1 (now (words .entry)) ⌝ }
-    ensures law { λ r. ⌜ Ends (now (words .entry)) r ⌝ }
+    ensures law { λ r. ⌜ Ends false (now (words .entry)) r ⌝ }
 {
     trees_end(words, 1, false)
 }
@@ -68,7 +72,7 @@ pub fn end(words: &[u32]) -> Result<usize, Broken>
 // Whether the run is one well-formed term, and if not, the place that cannot stand.
 pub fn whole(words: &[u32]) -> Result<(), Broken>
     ensures value { λ r. ⌜ r ≡ wholly false (now (words .entry)) ⌝ }
-    ensures law { λ r. ⌜ Whole (now (words .entry)) r ⌝ }
+    ensures law { λ r. ⌜ Whole false (now (words .entry)) r ⌝ }
 {
     one_tree(words, false)
 }

@@ -31,12 +31,11 @@ returns-in-rest-2 c =
 pub loop-i-again : need.loop-i-again
 loop-i-again c =
     let items = c .in-Continue-push .ensures tt .items in
-    let said = ap (λ b. formLine (c .args .head .layer) b (lineSays (c .in-Some .line))) (c .loop-i .inv .1) ∙ sym (c .in-Continue-form .ensures tt) ∙ c .in-Some-2 .is in
-    (
+    let said = ap (λ b. formLine (c .args .head .layer) b (lineSays (c .in-Some .line))) (c .loop-i .inv .1) ∙ sym (c .in-Continue-form .ensures tt) ∙ c .in-Some-2 .is in (
       ap length items ∙ length-push _ _ ∙ ap (λ n. n + 1) (c .loop-i .inv .0),
       ap lastLabel items ∙ last-label (vec-items (c .loop-i .forms)) (c .in-Some-2 .form),
       ap (λ l. judgeForms (c .args .head) l (c .args .head .forms - (c .loop-i .i + 1)) (readings (c .in-Some .line .rest .now))) items
-      ∙ sym (line-read _ _ _ _ (c .loop-i .inv .0) _ _ _ _ _ _ (omega arith) (c .in-Some .ensures tt .0) said) ∙ c .loop-i .inv .2,
+          ∙ sym (line-read _ _ _ _ (c .loop-i .inv .0) _ _ _ _ _ _ (omega arith) (c .in-Some .ensures tt .0) said) ∙ c .loop-i .inv .2,
     )
 
 pub returns-in-Some-next-line : need.returns-in-Some-next-line

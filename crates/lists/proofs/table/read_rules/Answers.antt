@@ -31,11 +31,10 @@ returns-in-rest-2 c =
 pub loop-k-again : need.loop-k-again
 loop-k-again c =
     let items = ap (map sidesOf) (c .in-Continue-push .ensures tt .items) ∙ map-push sidesOf (vec-items (c .loop-k .rules)) (c .in-Some-2 .rule) in
-    let said = ap (λ n. ruleLine n (lineSays (c .in-Some .line))) (c .loop-k .inv .0) ∙ sym (c .in-Continue-rule .ensures tt) ∙ ap (mapped sidesOf) (c .in-Some-2 .is) in
-    (
+    let said = ap (λ n. ruleLine n (lineSays (c .in-Some .line))) (c .loop-k .inv .0) ∙ sym (c .in-Continue-rule .ensures tt) ∙ ap (mapped sidesOf) (c .in-Some-2 .is) in (
       ap length items ∙ length-push _ _ ∙ ap (λ n. n + 1) (c .loop-k .inv .0),
       ap (λ l. judgeRules l (c .args .count - (c .loop-k .k + 1)) (readings (c .in-Some .line .rest .now))) items
-      ∙ sym (line-read _ _ _ _ (c .loop-k .inv .0) _ _ _ _ _ _ (omega arith) (c .in-Some .ensures tt .0) said) ∙ c .loop-k .inv .1,
+          ∙ sym (line-read _ _ _ _ (c .loop-k .inv .0) _ _ _ _ _ _ (omega arith) (c .in-Some .ensures tt .0) said) ∙ c .loop-k .inv .1,
     )
 
 pub returns-in-Some-next-line : need.returns-in-Some-next-line
