@@ -7,3 +7,4 @@ pub mod Sound
 pub mod Acceptance
 pub mod Held
 pub mod Spelling
+pub mod Laws
