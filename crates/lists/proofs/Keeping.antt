@@ -48,6 +48,16 @@ module _ {X : Type 0} (at : ℕ → Place) (reads : List X → Reading → Optio
       by go None has e = absurd (err-not-ok e)
       by go (Some x) has e = let rest = go x e in (x ∷ rest .0, rest .1 ∙ append-assoc read (x ∷ []) (rest .0), ap suc (rest .2), (has, rest .3))
 
+  pub lines-judged : (read xs : List X) (rs : List Reading) (n : ℕ) → length xs ≡ n → ReadAs read xs rs → judgeLines at reads read n rs ≡ Ok (read ++ xs)
+  unfolding judgeLines
+  lines-judged read [] [] zero l p = ap (λ (ys : List X). Ok ys) (sym (append-nil read))
+  lines-judged read [] [] (suc n) l p = absurd (omega arith)
+  lines-judged read [] (r ∷ rs) n l p = absurd p
+  lines-judged read (x ∷ xs) [] n l p = absurd p
+  lines-judged read (x ∷ xs) (r ∷ rs) zero l p = absurd (omega arith)
+  lines-judged read (x ∷ xs) (r ∷ rs) (suc n) l p =
+      rw (p .0, judgeLines) (lines-judged (read ++ x ∷ []) xs rs n (omega arith) (p .1) ∙ ap (λ (ys : List X). Ok ys) (append-assoc read (x ∷ []) xs))
+
 -- a header whose lines are in order
 pub record HeaderRead (rs : List Reading) (d : Declared) : Type 0 where
   pub first : Reading

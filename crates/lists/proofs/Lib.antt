@@ -12,3 +12,10 @@ pub mod Patterns
 pub mod Rising
 pub mod Faultless
 pub mod Accepting
+pub mod Quantified
+pub mod Worded
+pub mod Ruled
+pub mod Shaped
+pub mod Placed
+pub mod Apart
+pub mod Meaning

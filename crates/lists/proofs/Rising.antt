@@ -2,16 +2,21 @@
 use mathlib.Core.Path.{_≡_, refl, sym, ap, subst, _∙_}
 use mathlib.Core.Bool.{Bool, true, false, _&&_}
 use mathlib.Core.List.{List, [], _∷_, _++_, map}
-use Prim.Native.Nat.{ℕ}
+use Prim.Native.Nat.{ℕ, _+_, _*_, _<_, _≤_}
+use native.Mathlib.Omega.{arith}
+use lib.Dec.{leb, ltb}
 use Rattle.std.specs.declared.option.Option.{Option}
 use Rattle.std.specs.declared.option.Option.the-variants.{Some, None}
-use Rattle.std.proofs.shelf.Tests.{and-parts, and-from}
+use Rattle.std.specs.shelf.Lists.{All}
+use Rattle.std.proofs.shelf.Tests.{and-parts, and-from, leb-true, ltb-true, le-leb, lt-ltb}
 use Rattle.lists.specs.declared.parts.Form.{Form}
 use Rattle.lists.specs.declared.parts.Head.{Head}
 use Rattle.lists.specs.declared.refusal.Place.{Place}
 use Rattle.lists.specs.declared.refusal.Place.the-variants as place
 use Rattle.lists.specs.Texts.{Reading, form-line}
-use Rattle.lists.specs.Lines.{lastLabel, formLine}
+use Rattle.lists.specs.Lines.{owned, lastLabel, formLine}
+use Rattle.lists.specs.Sides.{formWord}
+use Rattle.lists.specs.Laws.{Rising}
 use Rattle.lists.specs.Sound.{risingFrom}
 use Rattle.lists.specs.Spelling.{formSays}
 use Rattle.lists.proofs.Judging.{last-label}
@@ -37,3 +42,25 @@ rising-read k read [] p = tt
 rising-read k read (x ∷ xs) p =
     let both = and-parts _ (risingFrom k (x .label) xs) p in
     (form-fits k (lastLabel read) x (both .0), rising-read k (read ++ x ∷ []) xs (ap (λ b. risingFrom k b xs) (last-label read x) ∙ both .1))
+
+-- the test of rising forms as a statement, both ways
+pub rise : (k before : ℕ) (forms : List Form) → risingFrom k before forms ≡ true → Rising k before forms
+unfolding risingFrom
+rise k before [] e = tt
+rise k before (f ∷ fs) e =
+    let p = and-parts (owned k (f .label) && ltb before (f .label) && leb (f .count) 8) (risingFrom k (f .label) fs) e in
+    let q = and-parts (owned k (f .label) && ltb before (f .label)) (leb (f .count) 8) (p .0) in
+    let r = and-parts (owned k (f .label)) (ltb before (f .label)) (q .0) in
+    let own = and-parts (leb (32 + 32 * k) (f .label)) (leb (f .label) (63 + 32 * k)) (r .0) in
+    (leb-true (32 + 32 * k) (f .label) (own .0), leb-true (f .label) (63 + 32 * k) (own .1), ltb-true before (f .label) (r .1), leb-true (f .count) 8 (q .1), rise k (f .label) fs (p .1))
+
+pub risen : (k before : ℕ) (forms : List Form) → Rising k before forms → risingFrom k before forms ≡ true
+unfolding risingFrom
+risen k before [] p = refl
+risen k before (f ∷ fs) p =
+    and-from _ _ (and-from _ _ (and-from _ _ (and-from _ _ (le-leb (32 + 32 * k) (f .label) (p .0)) (le-leb (f .label) (63 + 32 * k) (p .1))) (lt-ltb before (f .label) (p .2))) (le-leb (f .count) 8 (p .3))) (risen k (f .label) fs (p .4))
+
+-- the words of declared forms fit 32 bits
+pub form-words : (k before : ℕ) (forms : List Form) → k ≤ 6 → Rising k before forms → All (λ f. formWord f < 4294967296) forms
+form-words k before [] l p = tt
+form-words k before (f ∷ fs) l p = (omega (arith, p .1, p .3), form-words k (f .label) fs l (p .4))
