@@ -17,7 +17,7 @@ use Rattle.lists.specs.declared.parts.Head.{Head}
 use Rattle.lists.specs.declared.parts.Rule.{Rule}
 use Rattle.lists.specs.declared.refusal.Refusal.{Refusal}
 use Rattle.lists.specs.declared.refusal.Refusal.the-variants.{TextTooLong}
-use Rattle.lists.specs.Texts.{Reading, readings}
+use Rattle.texts.specs.Texts.{Reading, readings}
 use Rattle.lists.specs.Lines.{Sides, Declared, sidesOf, judgeHeader, judgeTable}
 use Rattle.lists.specs.Sound.{isLayer, rising}
 use Rattle.lists.specs.Acceptance.{Listed, shortEnough, accepted, withHeader, withTable, unlessFault, faultIn}

@@ -72,6 +72,7 @@ none-overlap earlier (s ∷ ss) e =
     cross : overlapsSome earlier s ≡ false → Cross (earlier ++ s ∷ []) ss → Cross earlier (s ∷ ss)
     cross n r x zero d has l = none-first earlier s x n has
     cross n r x (suc j) d has l = r x j d (has-append-left earlier (s ∷ []) x has) (omega arith)
+
     pairs : Cross (earlier ++ s ∷ []) ss → Pairs ss → Pairs (s ∷ ss)
     pairs c r zero zero d lt l = absurd (omega arith)
     pairs c r zero (suc j) d lt l = c s j d (has-push earlier s) (omega arith)

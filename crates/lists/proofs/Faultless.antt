@@ -15,7 +15,7 @@ use Rattle.lists.specs.Lines.{Sides}
 use Rattle.lists.specs.Sides.{every, any, shaped, linear, isFor}
 use Rattle.lists.specs.Sound.{allShaped, allLinear, overlapsSome, noneOverlapFrom, noneOverlap, allRuled}
 use Rattle.lists.specs.Acceptance.{Listed, sideFault, overlapFault, formFault, faultIn}
-use Rattle.lists.proofs.Answering.{some-not-none}
+use Rattle.texts.proofs.Answering.{some-not-none}
 
 -- a fault comes unless the test passes, and then the rest decides
 unless : (b : Bool) (o : Option Refusal) (e : Refusal) → cond b o (Some e) ≡ None → (b ≡ true) × (o ≡ None)

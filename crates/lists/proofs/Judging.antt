@@ -16,7 +16,7 @@ use Rattle.lists.specs.declared.parts.Form.{Form}
 use Rattle.lists.specs.declared.refusal.Place.{Place}
 use Rattle.lists.specs.declared.refusal.Refusal.{Refusal}
 use Rattle.lists.specs.declared.refusal.Refusal.the-variants.{LineBroken, LineMissing, LineExtra, TableDiffers, NoMemory}
-use Rattle.lists.specs.Texts.{Reading}
+use Rattle.texts.specs.Texts.{Reading}
 use Rattle.lists.specs.declared.parts.Head.{Head}
 use Rattle.lists.specs.declared.refusal.Place.the-variants as place
 use Rattle.lists.specs.Lines.{Sides, Answers, judgeLines, lastFrom, lastLabel, headLine, tableLine, withForms, judgeForms, judgeRules, judgeHeader, judgeTable}

@@ -18,12 +18,12 @@ use Rattle.lists.specs.declared.refusal.Place.{Place}
 use Rattle.lists.specs.declared.refusal.Place.the-variants as place
 use Rattle.lists.specs.declared.refusal.Refusal.{Refusal}
 use Rattle.lists.specs.declared.refusal.Refusal.the-variants.{LineBroken, LineMissing, LineExtra, TableDiffers, WrongShape, WrongVariables, Overlap, NoRule}
-use Rattle.lists.specs.Texts.{Reading}
+use Rattle.texts.specs.Texts.{Reading}
 use Rattle.lists.specs.Lines.{Sides, Declared, judgeLines, headLine, judgeForms, judgeRules, withForms, judgeHeader, tableLine, judgeTable}
 use Rattle.lists.specs.Sides.{every, any, shaped, linear, isFor}
 use Rattle.lists.specs.Sound.{isLayer, risingFrom, rising, overlapsSome, noneOverlapFrom}
 use Rattle.lists.specs.Acceptance.{Listed, sideFault, overlapFault, formFault, faultIn}
-use Rattle.lists.proofs.Answering.{err-not-ok, some-not-none, same-ok}
+use Rattle.texts.proofs.Answering.{err-not-ok, some-not-none, same-ok}
 
 -- the lines read as the elements, one by one, each behind those before it
 module _ {X : Type 0} (at : ℕ → Place) (reads : List X → Reading → Option X) where

@@ -1,12 +1,8 @@
-pub mod Cutting
-pub mod Firsts
-pub mod Numbering
 pub mod Lining
 pub mod Judging
 pub mod Wording
 pub mod Scanning
 pub mod Faulting
-pub mod Answering
 pub mod Keeping
 pub mod Patterns
 pub mod Rising

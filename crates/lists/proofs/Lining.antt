@@ -4,12 +4,12 @@ use mathlib.Core.List.{List, [], _∷_}
 use Prim.Native.Nat.{ℕ}
 use Rattle.std.specs.declared.option.Option.{Option}
 use Rattle.std.specs.declared.option.Option.the-variants.{Some, None}
-use Rattle.lists.specs.declared.text.Line.{Line}
-use Rattle.lists.specs.declared.text.Line.the-variants as line
-use Rattle.lists.specs.declared.text.Word.{Word}
-use Rattle.lists.specs.declared.text.Word.the-variants as word
-use Rattle.lists.specs.Texts.{Reading, numbers, pieces, numbered, head-line, form-line, table-line, rule-line, broken-line}
-use Rattle.lists.specs.Pieces.{lineMeans, fieldsOf}
+use Rattle.texts.specs.declared.text.Line.{Line}
+use Rattle.texts.specs.declared.text.Line.the-variants as line
+use Rattle.texts.specs.declared.text.Word.{Word}
+use Rattle.texts.specs.declared.text.Word.the-variants as word
+use Rattle.texts.specs.Texts.{Reading, numbers, pieces, numbered, head-line, form-line, table-line, rule-line, broken-line}
+use Rattle.texts.specs.Pieces.{lineMeans, fieldsOf}
 use Rattle.lists.specs.Lines.{numbersOf, andThen}
 
 -- a reading of one kind gives its numbers to the test for that kind, and nothing to another

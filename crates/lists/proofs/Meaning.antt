@@ -2,7 +2,8 @@
 use mathlib.Core.Path.{_≡_, refl, sym, ap, subst, _∙_}
 use mathlib.Core.Bool.{Bool, true, false, cond, _&&_}
 use mathlib.Core.List.{List, [], _∷_, map}
-use Prim.Native.Nat.{ℕ, _<_, _≤_}
+use mathlib.Core.Logic.{_⊎_, inl, inr, ⊎-elim}
+use Prim.Native.Nat.{ℕ, suc, _<_, _≤_}
 use native.Mathlib.Omega.{arith}
 use lib.Dec.{leb}
 use lib.ListN.{length}
@@ -10,6 +11,7 @@ use Rattle.std.specs.declared.option.Option.{Option}
 use Rattle.std.specs.declared.option.Option.the-variants.{Some, None}
 use Rattle.std.specs.declared.result.Result.{Result}
 use Rattle.std.specs.declared.result.Result.the-variants.{Ok, Err}
+use Rattle.std.specs.Results.{mapped}
 use Rattle.std.specs.shelf.Lists.{All, Has}
 use Rattle.std.proofs.shelf.Elements.{all-has}
 use Rattle.std.proofs.shelf.Tests.{and-parts, and-from, leb-true, le-leb, false≢true}
@@ -17,14 +19,16 @@ use Rattle.lists.specs.declared.parts.Form.{Form}
 use Rattle.lists.specs.declared.parts.Head.{Head}
 use Rattle.lists.specs.declared.refusal.Refusal.{Refusal}
 use Rattle.lists.specs.declared.refusal.Refusal.the-variants.{TextTooLong}
-use Rattle.lists.specs.Texts.{Reading, readings, head-line, table-line}
-use Rattle.lists.specs.Lines.{Sides, Declared, within, withForms, judgeHeader, judgeTable}
+use Rattle.texts.specs.Texts.{Reading, readings, head-line, table-line}
+use Rattle.texts.specs.Laws.{Unbroken}
+use Rattle.texts.proofs.Spelt.{read-if-spelled, spelled-if-read}
+use Rattle.lists.specs.Lines.{Sides, Declared, Answers, within, withForms, judgeHeader, judgeTable}
 use Rattle.lists.specs.Sides.{shaped, linear, leftShaped, rightShaped, onceEach, every, bound, formWord}
 use Rattle.lists.specs.Sound.{isLayer, rising}
 use Rattle.lists.specs.Acceptance.{Listed, shortEnough, faultIn, unlessFault, withHeader, withTable, accepted}
 use Rattle.lists.specs.Spelling.{headerSays, tableSays, formSays, rulesSay}
-use Rattle.lists.specs.Laws.{Proper, LeftSide, RightSide, OncePlaced, FromLeft}
-use Rattle.lists.proofs.Answering.{err-not-ok, same-ok}
+use Rattle.lists.specs.Laws.{Proper, LeftSide, RightSide, OncePlaced, FromLeft, Accepted-are-proper, Proper-are-accepted, Means}
+use Rattle.texts.proofs.Answering.{err-not-ok, same-ok}
 use Rattle.lists.proofs.Judging.{header-is, table-is}
 use Rattle.lists.proofs.Keeping.{header-read, table-read, lines-read, lines-judged}
 use Rattle.lists.proofs.Patterns.{head-says, head-fits, table-says, table-fits}
@@ -56,12 +60,15 @@ steps header table l e = by-short (shortEnough header table) refl e
         let same = sym (same-ok e) ∙ is in
         record { short = s; declared = d; head = h; lines = t ∙ ap (λ (x : Listed). Ok (x .rules)) (sym same); layer = ap (λ (x : Listed). x .layer) same; forms = ap (λ (x : Listed). x .forms) same; faults = ap faultIn (sym (same-ok e)) ∙ f }
     by-fault d rules s h t m is (Some x) f e = absurd (err-not-ok e)
+
     by-table-is : (d : Declared) → shortEnough header table ≡ true → judgeHeader (readings header) ≡ Ok d → (r : Result (List Sides) Refusal) → judgeTable (d .head) (readings table) ≡ r → withTable d r ≡ Ok l → Steps header table l
     by-table-is d s h (Ok rules) t e = by-fault d rules s h t (record { layer = d .head .layer; forms = d .forms; rules = rules }) refl _ refl e
     by-table-is d s h (Err x) t e = absurd (err-not-ok e)
+
     by-head : shortEnough header table ≡ true → (r : Result Declared Refusal) → judgeHeader (readings header) ≡ r → withHeader table r ≡ Ok l → Steps header table l
     by-head s (Ok d) h e = by-table-is d s h _ refl e
     by-head s (Err x) h e = absurd (err-not-ok e)
+
     by-short : (t : Bool) → shortEnough header table ≡ t → _≡_ {A = Result Listed Refusal} (elim t [ false ↦ Err TextTooLong | true ↦ withHeader table (judgeHeader (readings header)) ]) (Ok l) → Steps header table l
     by-short true s e = by-head s _ refl e
     by-short false s e = absurd (err-not-ok e)
@@ -102,8 +109,7 @@ table-said table l h e layer =
     let first = table-says (read .first) (h .layer) (h .rules) (read .head) in
     let lines = lines-read _ _ [] (h .rules) (read .rest) (l .rules) (read .rules-are) in
     let count = sym (ap length (lines .1) ∙ lines .2) in
-    let are = rules-said [] (lines .0) (read .rest) (lines .3) in
-    (
+    let are = rules-said [] (lines .0) (read .rest) (lines .3) in (
       read .lines ∙ (λ i. first i ∷ (are .0 ∙ ap (rulesSay 0) (sym (lines .1))) i) ∙ (λ i. table-line (layer i ∷ count i ∷ []) ∷ rulesSay 0 (l .rules)),
       subst (All Sized) (sym (lines .1)) (are .1),
       count,
@@ -214,3 +220,39 @@ accepted-if-said header table l s =
     let p = s .is-proper in
     by-table header table (record { head = first l p; forms = l .forms }) (l .rules) (s .short) (header-judged l p header (s .header-says)) (table-judged l p table (s .table-says-it))
     ∙ ap (unlessFault l) (faultless l (tests l p))
+
+-- the lines that a list says are not broken
+forms-unbroken : (forms : List Form) → All Unbroken (map formSays forms)
+forms-unbroken [] = tt
+forms-unbroken (f ∷ fs) = (tt, forms-unbroken fs)
+
+rules-unbroken : (i : ℕ) (rules : List Sides) → All Unbroken (rulesSay i rules)
+rules-unbroken i [] = tt
+rules-unbroken i (s ∷ ss) = (tt, rules-unbroken (suc i) ss)
+
+pub accepted-are-proper : Accepted-are-proper
+accepted-are-proper header table l e =
+    let s = said-if-accepted header table l e in
+    let short = and-parts (leb (length header) 16384) (leb (length table) 16384) (s .short) in (
+      record {
+        header-short = leb-true (length header) 16384 (short .0);
+        table-short = leb-true (length table) 16384 (short .1);
+        header-spelled = spelled-if-read (headerSays l) header (tt, forms-unbroken (l .forms)) (s .header-says);
+        table-spelled = spelled-if-read (tableSays l) table (tt, rules-unbroken 0 (l .rules)) (s .table-says-it);
+      },
+      s .is-proper,
+    )
+
+pub proper-are-accepted : Proper-are-accepted
+proper-are-accepted header table l s p =
+    accepted-if-said header table l (record {
+      short = and-from (leb (length header) 16384) (leb (length table) 16384) (le-leb (length header) 16384 (s .header-short)) (le-leb (length table) 16384 (s .table-short));
+      header-says = read-if-spelled (headerSays l) header (s .header-spelled);
+      table-says-it = read-if-spelled (tableSays l) table (s .table-spelled);
+      is-proper = p;
+    })
+
+-- what an answer means, from the answer that the rules give
+pub answer-means : {X : Type 0} (model : X → Listed) (header table : List ℕ) (r : Result X Refusal) → Answers model (accepted header table) r → Means header table (mapped model (λ e. e) r)
+answer-means model header table (Ok x) e = accepted-are-proper header table (model x) e
+answer-means model header table (Err e) why = ⊎-elim inl (λ is. inr (λ l s p. err-not-ok (sym is ∙ proper-are-accepted header table l s p))) why

@@ -10,9 +10,9 @@ use Rattle.std.specs.declared.option.Option.the-variants.{Some, None}
 use Rattle.std.proofs.shelf.Tests.{and-parts, and-from, eqb-true, eq-eqb}
 use Rattle.lists.specs.declared.parts.Form.{Form}
 use Rattle.lists.specs.declared.parts.Head.{Head}
-use Rattle.lists.specs.Texts.{Reading, head-line, form-line, table-line, rule-line, broken-line}
+use Rattle.texts.specs.Texts.{Reading, head-line, form-line, table-line, rule-line, broken-line}
 use Rattle.lists.specs.Lines.{Sides, within, owned, headLine, formLine, tableLine, ruleLine, sidesFrom, wordsOf}
-use Rattle.lists.proofs.Answering.{none-not-some, some-not-none, tested}
+use Rattle.texts.proofs.Answering.{none-not-some, some-not-none, tested}
 
 -- the header's first line
 abbrev pub HeadFits : Head → Type 0

@@ -13,7 +13,7 @@ use Rattle.lists.specs.declared.parts.Form.{Form}
 use Rattle.lists.specs.declared.parts.Head.{Head}
 use Rattle.lists.specs.declared.refusal.Place.{Place}
 use Rattle.lists.specs.declared.refusal.Place.the-variants as place
-use Rattle.lists.specs.Texts.{Reading, form-line}
+use Rattle.texts.specs.Texts.{Reading, form-line}
 use Rattle.lists.specs.Lines.{owned, lastLabel, formLine}
 use Rattle.lists.specs.Sides.{formWord}
 use Rattle.lists.specs.Laws.{Rising}

@@ -13,10 +13,10 @@ use Rattle.std.specs.shelf.Lists.{All}
 use Rattle.std.proofs.shelf.Lists.{take-append-drop, length-take-le, length-drop, length-append, length-push, take-at, drop-at}
 use Rattle.std.proofs.shelf.Tests.{and-parts, and-from, leb-true, le-leb, eqb-true, eq-eqb}
 use Rattle.lists.specs.declared.refusal.Place.the-variants as place
-use Rattle.lists.specs.Texts.{Reading, head-line, form-line, table-line, rule-line, broken-line}
+use Rattle.texts.specs.Texts.{Reading, head-line, form-line, table-line, rule-line, broken-line}
 use Rattle.lists.specs.Lines.{Sides, within, sidesFrom, wordsOf, ruleOf, ruleLine}
 use Rattle.lists.specs.Spelling.{wordFields, ruleSays, rulesSay}
-use Rattle.lists.proofs.Answering.{none-not-some, same-some}
+use Rattle.texts.proofs.Answering.{none-not-some, same-some}
 use Rattle.lists.proofs.Keeping.{ReadAs}
 use Rattle.lists.proofs.Worded.{fields-of-words, words-of-fields, fields-length}
 use Rattle.lists.proofs.Wording.{rule-is}
@@ -46,8 +46,7 @@ rule-of-says k n a b ns s e =
     let right = fields-of-words (drop (2 * a) ns) (s .right) (t .2) in
     let left-long : length (s .left) ≡ a = omega (arith, left .1, length-take-le (2 * a) ns (omega arith)) in
     let right-long : length (s .right) ≡ b = omega (arith, right .1, length-drop (2 * a) ns) in
-    let fields : ns ≡ wordFields (s .left) ++ wordFields (s .right) = sym (take-append-drop (2 * a) ns) ∙ (λ i. left .0 i ++ right .0 i) in
-    (
+    let fields : ns ≡ wordFields (s .left) ++ wordFields (s .right) = sym (take-append-drop (2 * a) ns) ∙ (λ i. left .0 i ++ right .0 i) in (
       (λ i. rule-line (number i ∷ sym left-long i ∷ sym right-long i ∷ fields i)),
       (omega (arith, leb-true 1 a (lefts .0)), omega (arith, leb-true a 9 (lefts .1)), omega (arith, leb-true 1 b (rights .0)), omega (arith, leb-true b 64 (rights .1))),
     )

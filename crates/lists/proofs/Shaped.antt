@@ -76,8 +76,7 @@ right-side k (w ∷ ws) e =
     let p = and-parts (isLowerForm k (nodeOf w) && every (onRight k) ws) (isTree (w ∷ ws)) e in
     let q = and-parts (isLowerForm k (nodeOf w)) (every (onRight k) ws) (p .0) in
     let t = tree-if (w ∷ ws) (p .1) in
-    let root = lower-root k (t .0) w ws (t .1) (t .2) (q .0) in
-    (
+    let root = lower-root k (t .0) w ws (t .1) (t .2) (q .0) in (
       root .0,
       root .1,
       subst (λ u. WellMade u true) (root .2) (t .1),

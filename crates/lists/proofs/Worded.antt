@@ -12,7 +12,7 @@ use Rattle.std.specs.shelf.Lists.{All}
 use Rattle.std.proofs.shelf.Tests.{and-parts, and-from, leb-true, le-leb}
 use Rattle.lists.specs.Lines.{andThen, wordAt, wordsOf}
 use Rattle.lists.specs.Spelling.{wordFields}
-use Rattle.lists.proofs.Answering.{none-not-some, same-some, tested}
+use Rattle.texts.proofs.Answering.{none-not-some, same-some, tested}
 
 word-parts : (l p w : ℕ) → wordAt l p ≡ Some w → (w / 16777216 ≡ l) × (w % 16777216 ≡ p)
 word-parts l p w e =
@@ -41,8 +41,7 @@ fields-of-words (l ∷ []) ws e = absurd (none-not-some e)
 fields-of-words (l ∷ p ∷ ns) ws e =
     let b = both-some (wordAt l p) (wordsOf ns) ws e in
     let here = word-parts l p (b .0) (b .2) in
-    let rest = fields-of-words ns (b .1) (b .3) in
-    (
+    let rest = fields-of-words ns (b .1) (b .3) in (
       (λ i. sym (here .0) i ∷ (sym (here .1) i ∷ rest .0 i)) ∙ ap wordFields (sym (b .4)),
       omega (arith, rest .1, ap length (b .4)),
     )

@@ -11,7 +11,7 @@ use Rattle.std.specs.declared.option.Option.the-variants.{Some, None}
 use Rattle.std.proofs.shelf.Lists.{append-assoc, append-nil}
 use Rattle.std.proofs.shelf.Tests.{and-from, eq-eqb, le-leb}
 use Rattle.lists.specs.Lines.{andThen, within, wordAt, wordsOf, sidesFrom, ruleOf}
-use Rattle.lists.proofs.Numbering.{resumed}
+use Rattle.texts.proofs.Numbering.{resumed}
 
 pub bad-word : (read ns : List ℕ) → 2 ≤ length ns → wordAt (getD ns 0 0) (getD ns 1 0) ≡ None → resumed read (wordsOf ns) ≡ None
 unfolding resumed wordsOf

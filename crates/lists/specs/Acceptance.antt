@@ -14,7 +14,7 @@ use Rattle.std.specs.Options.{orOther}
 use Rattle.lists.specs.declared.parts.Form.{Form}
 use Rattle.lists.specs.declared.refusal.Refusal.{Refusal}
 use Rattle.lists.specs.declared.refusal.Refusal.the-variants.{TextTooLong, WrongShape, WrongVariables, Overlap, NoRule}
-use Rattle.lists.specs.Texts.{readings}
+use Rattle.texts.specs.Texts.{readings}
 use Rattle.lists.specs.Lines.{Sides, Declared, judgeHeader, judgeTable}
 use Rattle.lists.specs.Sides.{any, shaped, linear, isFor}
 use Rattle.lists.specs.Sound.{overlapsSome}

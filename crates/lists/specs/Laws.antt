@@ -16,7 +16,8 @@ use Rattle.lists.specs.declared.refusal.Refusal.the-variants.{NoMemory}
 use Rattle.lists.specs.Lines.{Sides}
 use Rattle.lists.specs.Sides.{isVariable, isArgument, onRight, formWord, clash}
 use Rattle.lists.specs.Acceptance.{Listed, accepted}
-use Rattle.lists.specs.Spelling.{headerSays, tableSays, TextSpelled}
+use Rattle.texts.specs.Spelling.{TextSpelled}
+use Rattle.lists.specs.Spelling.{headerSays, tableSays}
 
 -- the two texts spell the list: both declare its layer and its number of rules, and each form and each rule has its own line
 pub record Spelled (l : Listed) (header table : List ℕ) : Type 0 where
@@ -79,4 +80,3 @@ Proper-are-accepted = (header table : List ℕ) (l : Listed) → Spelled l heade
 abbrev pub Means : List ℕ → List ℕ → Result Listed Refusal → Type 0
 Means header table (Ok l) = Spelled l header table × Proper l
 Means header table (Err e) = (e ≡ NoMemory) ⊎ ((l : Listed) → Spelled l header table → Proper l → ⊥)
-

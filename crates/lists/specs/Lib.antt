@@ -1,5 +1,3 @@
-pub mod Texts
-pub mod Pieces
 pub mod Refusals
 pub mod Lines
 pub mod Sides

@@ -23,9 +23,9 @@ use Rattle.lists.specs.declared.refusal.Place.{Place}
 use Rattle.lists.specs.declared.refusal.Place.the-variants as place
 use Rattle.lists.specs.declared.refusal.Refusal.{Refusal}
 use Rattle.lists.specs.declared.refusal.Refusal.the-variants.{LineBroken, LineMissing, LineExtra, TableDiffers, NoMemory}
-use Rattle.lists.specs.declared.text.Word.{Word}
-use Rattle.lists.specs.declared.text.Word.the-variants as word
-use Rattle.lists.specs.Texts.{Reading, head-line, form-line, table-line, rule-line, broken-line}
+use Rattle.texts.specs.declared.text.Word.{Word}
+use Rattle.texts.specs.declared.text.Word.the-variants as word
+use Rattle.texts.specs.Texts.{Reading, head-line, form-line, table-line, rule-line, broken-line}
 
 abbrev pub within : ℕ → ℕ → ℕ → Bool
 within low high n = leb low n && leb n high

@@ -1,9 +1,11 @@
 // Accepts or refuses the two texts of a list.
 ghost use mathlib.Core.Path.{_≡_};
 ghost use Rattle.std.specs.Of.Vec.{vec-items};
+ghost use Rattle.std.specs.Results.{mapped};
 ghost use Rattle.lists.specs.Lines.{Answers};
 ghost use Rattle.lists.specs.Acceptance.{blank, accepted};
 ghost use Rattle.lists.specs.Held.{listedIn, Decided};
+ghost use Rattle.lists.specs.Laws.{Means};
 use crate::faults::fault_in;
 use crate::header::read_header;
 use crate::list::RuleList;
@@ -35,6 +37,14 @@ fn read_list(heap: Global, header: &[u8], table: &[u8]) -> Result<RuleList, Refu
     }
 }
 
+// The same list or refusal, with what it means that the texts get it.
+fn list_meant(heap: Global, header: &[u8], table: &[u8]) -> Result<RuleList, Refusal>
+    ensures answer { λ r. ⌜ Answers listedIn (accepted (now (header .entry)) (now (table .entry))) r ⌝ }
+    ensures law { λ r. ⌜ Means (now (header .entry)) (now (table .entry)) (mapped listedIn (λ e. e) r) ⌝ }
+{
+    read_list(heap, header, table)
+}
+
 impl RuleList {
     // A new place: layer 1, no form, no rule.
     pub fn new(heap: Global) -> RuleList
@@ -49,9 +59,10 @@ impl RuleList {
 
     // Accepts the two texts of a list into this place, or refuses them and leaves the place as it was.
     pub fn accept(&mut self, heap: Global, header: &[u8], table: &[u8]) -> Result<(), Refusal>
-        ensures { λ r. ⌜ Decided (now (header .entry)) (now (table .entry)) (now (self .entry)) (now (self .exit)) r ⌝ }
+        ensures answer { λ r. ⌜ Decided (now (header .entry)) (now (table .entry)) (now (self .entry)) (now (self .exit)) r ⌝ }
+        ensures law { λ r. ⌜ Means (now (header .entry)) (now (table .entry)) (mapped (λ _. listedIn (now (self .exit))) (λ e. e) r) ⌝ }
     {
-        *self = read_list(heap, header, table)?;
+        *self = list_meant(heap, header, table)?;
         Ok(())
     }
 

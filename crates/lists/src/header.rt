@@ -5,24 +5,29 @@ ghost use Prim.Native.Nat.{_≤_};
 ghost use Rattle.std.specs.Options.{mapped};
 ghost use Rattle.std.specs.Of.Vec.{vec-items};
 ghost use Rattle.std.specs.Vec.{made};
-ghost use Rattle.lists.specs.Texts.{readings};
-ghost use Rattle.lists.specs.Pieces.{fieldsOf, lineSays};
+ghost use Rattle.texts.specs.Texts.{readings};
+ghost use Rattle.texts.specs.Pieces.{fieldsOf, lineSays};
 ghost use Rattle.lists.specs.Lines.{Answers, numbersOf, owned, headOf, headLine, formOf, formLine, judgeForms, judgeHeader, declaredBy};
-use crate::number::read_numbers;
 use crate::parts::Form;
 use crate::parts::Head;
 use crate::parts::Header;
+use crate::parts::LABELS;
+use crate::parts::MOST_RULES;
 use crate::refusal::Place;
 use crate::refusal::Refusal;
 use crate::refusal::RefusalFromAlloc;
 use crate::refusal::RefusalFromRefused;
-use crate::text::Line;
-use crate::text::Piece;
-use crate::text::Word;
-use crate::text::first_field;
-use crate::text::next_line;
 use std::alloc::AllocError;
 use std::alloc::Global;
+use terms::words::FIRST_LAYER;
+use terms::words::LAST_LAYER;
+use terms::words::MOST_CHILDREN;
+use texts::number::read_numbers;
+use texts::text::Line;
+use texts::text::Piece;
+use texts::text::Word;
+use texts::text::first_field;
+use texts::text::next_line;
 
 // The fields of a line that begins with the word.
 fn fields_of(line: Option<Line<'_>>, word: Word) -> Option<&[u8]>
@@ -51,17 +56,7 @@ pub(crate) fn line_numbers(
     }
 }
 
-const FIRST_LAYER: u32 = 1;
-
-const LAST_LAYER: u32 = 6;
-
 const MOST_FORMS: u32 = 32;
-
-const MOST_RULES: u32 = 32;
-
-const MOST_CHILDREN: u32 = 8;
-// Layer k owns LABELS labels, from LABELS + LABELS × k on.
-const LABELS: u32 = 32;
 
 // What the numbers of a header's first line declare.
 fn head_from(numbers: &[u32]) -> Option<Head>

@@ -1,5 +1,10 @@
 // The parts of a rule list, as plain data.
 
+// Layer k owns LABELS labels, from LABELS + LABELS × k on.
+pub const LABELS: u32 = 32;
+
+pub const MOST_RULES: u32 = 32;
+
 // A form that the list declares: its label, and how many children it has.
 #[derive(Clone, Copy, Debug, PartialEq, Eq)]
 pub struct Form {

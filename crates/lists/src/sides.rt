@@ -1,22 +1,18 @@
 // The two sides of a rule: their shape, their variables, and where two left sides overlap.
 ghost use mathlib.Core.Path.{_≡_};
-ghost use mathlib.Core.Bool.{_&&_, _||_, not};
+ghost use mathlib.Core.Bool.{_&&_};
 ghost use Prim.Native.Nat.{_≤_};
 ghost use lib.Dec.{eqb};
-ghost use Rattle.std.specs.Of.Vec.{vec-items};
 ghost use Rattle.terms.specs.Words.{nodeOf};
 ghost use Rattle.lists.specs.Lines.{sidesOf};
 ghost use Rattle.lists.specs.Sides.{any, every, isAtom, isVariable, isLowerForm, isArgument, onRight, formWord, leftShaped, rightShaped, shaped, holds, repeated, onceEach, bound, linear, clash, agree, overlapping, isFor};
 use crate::parts::Form;
+use crate::parts::LABELS;
 use crate::parts::Rule;
 use terms::front::is_tree;
+use terms::words::LABEL_UNIT;
 use terms::words::Node;
 use terms::words::decode;
-
-// Layer k owns LABELS labels, from LABELS + LABELS × k on.
-const LABELS: u32 = 32;
-
-const LABEL_UNIT: u32 = 16_777_216;
 
 fn is_atom(word: u32) -> bool
     ensures { λ r. ⌜ r ≡ isAtom (nodeOf word) ⌝ }

@@ -4,35 +4,30 @@ ghost use mathlib.Core.List.{[]};
 ghost use Rattle.std.specs.Options.{mapped};
 ghost use Rattle.std.specs.Of.Vec.{vec-items};
 ghost use Rattle.std.specs.Vec.{made};
-ghost use Rattle.lists.specs.Texts.{readings};
-ghost use Rattle.lists.specs.Pieces.{lineSays};
+ghost use Rattle.texts.specs.Texts.{readings};
+ghost use Rattle.texts.specs.Pieces.{lineSays};
 ghost use Rattle.lists.specs.Lines.{Answers, tableOf, tableLine, wordAt, wordsOf, FieldsOf, ruleOf, ruleLine, sidesOf, allSides, judgeRules, judgeTable};
 use crate::header::line_numbers;
 use crate::parts::Head;
+use crate::parts::MOST_RULES;
 use crate::parts::Rule;
 use crate::refusal::Place;
 use crate::refusal::Refusal;
 use crate::refusal::RefusalFromAlloc;
 use crate::refusal::RefusalFromRefused;
-use crate::text::Piece;
-use crate::text::Word;
-use crate::text::next_line;
 use std::alloc::AllocError;
 use std::alloc::Global;
-
-const FIRST_LAYER: u32 = 1;
-
-const LAST_LAYER: u32 = 6;
-
-const MOST_RULES: u32 = 32;
+use terms::words::FIRST_LAYER;
+use terms::words::LABEL_UNIT;
+use terms::words::LAST_LABEL;
+use terms::words::LAST_LAYER;
+use texts::text::Piece;
+use texts::text::Word;
+use texts::text::next_line;
 
 const MOST_LEFT: u32 = 9;
 
 const MOST_RIGHT: u32 = 64;
-
-const LAST_LABEL: u32 = 255;
-
-const LABEL_UNIT: u32 = 16_777_216;
 
 // The layer and the number of rules that the table's first line declares.
 fn table_from(numbers: &[u32]) -> Option<(u32, u32)>

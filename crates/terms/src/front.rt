@@ -3,7 +3,7 @@ ghost use mathlib.Core.Path.{_≡_};
 ghost use mathlib.Core.Bool.{true, false};
 ghost use Rattle.terms.specs.Words.{nodeOf};
 ghost use Rattle.terms.specs.Fronts.{wants, ending, wholly, isTree, childAt};
-ghost use Rattle.terms.specs.Laws.{Ends, Whole, OneTree, Answered, Children-are-found};
+ghost use Rattle.terms.specs.Laws.{Ends, Whole, OneTree, Answered};
 use crate::words::Node;
 use crate::words::decode;
 
@@ -14,10 +14,8 @@ pub struct Broken {
 }
 
 // How many children the word wants; none if it cannot stand. A variable stands only where variables may.
-// The law is that of `argument`, which takes it from here at each of its returns behind this call.
 fn wanted_by(word: u32, variables: bool) -> Option<u64>
-    ensures value { λ r. ⌜ r ≡ wants variables (nodeOf word) ⌝ }
-    ensures law { λ _. ⌜ Children-are-found ⌝ }
+    ensures { λ r. ⌜ r ≡ wants variables (nodeOf word) ⌝ }
 {
     match decode(word)? {
         Node::Variable { .. } if !variables => None,
@@ -87,8 +85,7 @@ pub fn is_tree(words: &[u32]) -> bool
 
 // Child i, from 0, of the node that the run begins with: the stretch of the given words that it is.
 pub fn argument(words: &[u32], i: usize) -> Option<&[u32]>
-    ensures answer { λ r. ⌜ Answered (now (words .entry)) (childAt i (now (words .entry))) r ⌝ }
-    ensures law { λ _. ⌜ Children-are-found ⌝ }
+    ensures { λ r. ⌜ Answered (now (words .entry)) (childAt i (now (words .entry))) r ⌝ }
 {
     let (word, behind) = words.split_first()?;
     if i as u64 >= wanted_by(*word, false)? {

@@ -1,5 +1,5 @@
 // The laws of terms that no single call shows.
-ghost use Rattle.terms.specs.Laws.{Reading-undoes-writing, Writing-undoes-reading, One-term-a-run, Marks-come-off};
+ghost use Rattle.terms.specs.Laws.{Reading-undoes-writing, Writing-undoes-reading, One-term-a-run, Marks-come-off, Children-are-found};
 
 // Trees and runs of words stand for each other: to write and then read, or to read and then write, gives back the same.
 pub fn reading_and_writing_agree()
@@ -11,4 +11,9 @@ pub fn reading_and_writing_agree()
 // What taking the marks off a term leaves.
 pub fn marks_come_off()
     ensures { λ _. ⌜ Marks-come-off ⌝ }
+{}
+
+// The argument finder finds each child of a term, and no other, whatever stands behind the term.
+pub fn children_are_found()
+    ensures { λ _. ⌜ Children-are-found ⌝ }
 {}

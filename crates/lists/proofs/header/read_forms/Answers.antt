@@ -8,8 +8,8 @@ use lib.ListN.{length}
 use Rattle.std.proofs.shelf.Lists.{length-push}
 use Rattle.std.specs.Of.Vec.{vec-items}
 use Rattle.lists.specs.declared.parts.Form.{Form}
-use Rattle.lists.specs.Texts.{readings}
-use Rattle.lists.specs.Pieces.{lineSays}
+use Rattle.texts.specs.Texts.{readings}
+use Rattle.texts.specs.Pieces.{lineSays}
 use Rattle.lists.specs.Lines.{judgeForms, lastLabel, formLine}
 use Rattle.lists.proofs.Judging.{line-missing, line-broken, line-extra, lines-end, line-read, last-label}
 use Rattle.lists.proofs.header.read_forms.Needs as need

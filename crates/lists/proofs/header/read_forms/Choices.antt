@@ -3,7 +3,7 @@ use mathlib.Core.List.{[]}
 use Prim.Native.Nat.{_-_}
 use lib.ListN.{length}
 use Rattle.std.specs.Of.Vec.{vec-items}
-use Rattle.lists.specs.Texts.{readings}
+use Rattle.texts.specs.Texts.{readings}
 use Rattle.lists.specs.Lines.{judgeForms, lastLabel}
 use Rattle.lists.proofs.header.read_forms.Given as given
 

@@ -8,8 +8,8 @@ use lib.ListN.{length}
 use Rattle.std.specs.Of.Vec.{vec-items}
 use Rattle.std.specs.Options.{mapped}
 use Rattle.std.proofs.shelf.Lists.{length-push, map-push}
-use Rattle.lists.specs.Texts.{readings}
-use Rattle.lists.specs.Pieces.{lineSays}
+use Rattle.texts.specs.Texts.{readings}
+use Rattle.texts.specs.Pieces.{lineSays}
 use Rattle.lists.specs.Lines.{sidesOf, allSides, judgeRules, ruleLine}
 use Rattle.lists.proofs.Judging.{line-missing, line-broken, line-extra, lines-end, line-read}
 use Rattle.lists.proofs.table.read_rules.Needs as need

@@ -2,7 +2,7 @@ use mathlib.Core.Path.{_≡_}
 use mathlib.Core.List.{[]}
 use Prim.Native.Nat.{_-_}
 use lib.ListN.{length}
-use Rattle.lists.specs.Texts.{readings}
+use Rattle.texts.specs.Texts.{readings}
 use Rattle.lists.specs.Lines.{allSides, judgeRules}
 use Rattle.lists.proofs.table.read_rules.Given as given
 

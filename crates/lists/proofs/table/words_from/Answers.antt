@@ -8,7 +8,7 @@ use Rattle.std.specs.Of.Vec.{vec-items}
 use Rattle.std.proofs.shelf.Lists.{take-rest}
 use Rattle.std.proofs.shelf.Tests.{eqb-true, eqb-false}
 use Rattle.lists.specs.Lines.{wordsOf}
-use Rattle.lists.proofs.Numbering.{resumed, resumed-none}
+use Rattle.texts.proofs.Numbering.{resumed, resumed-none}
 use Rattle.lists.proofs.Wording.{bad-word, next-word, words-end, word-half}
 use Rattle.lists.proofs.table.words_from.Needs as need
 

@@ -2,7 +2,7 @@ use mathlib.Core.Path.{_≡_}
 use lib.ListN.{length}
 use Rattle.std.specs.Of.Vec.{vec-items}
 use Rattle.lists.specs.Lines.{wordsOf}
-use Rattle.lists.proofs.Numbering.{resumed}
+use Rattle.texts.proofs.Numbering.{resumed}
 use Rattle.lists.proofs.table.words_from.Given as given
 
 abbrev pub Inv-loop-rest : given.InvT-loop-rest

@@ -5,7 +5,6 @@ use mathlib.Core.List.{List, _∷_}
 use Prim.Native.Nat.{ℕ, _+_, _-_, _≤_}
 use native.Mathlib.Numerals.{one-add}
 use native.Mathlib.Omega.{arith}
-use borrow.Author.Needs.{needs}
 use denote.Ref.{RefT}
 use lib.ListN.{length, take, drop}
 use Rattle.std.specs.declared.option.Option.the-variants.{Some}
@@ -14,7 +13,6 @@ use Rattle.std.proofs.shelf.Lists.{length-drop, length-take-le, take-rest}
 use Rattle.terms.specs.Fronts.{ending, childAt}
 use Rattle.terms.specs.Laws.{Answered}
 use Rattle.terms.proofs.Fillings.{ends-within}
-use Rattle.terms.proofs.Children.{children-found}
 use Rattle.terms.proofs.front.argument.Needs as need
 use Rattle.terms.proofs.front.argument.Needs.{In-Continue-skipped}
 
@@ -26,9 +24,6 @@ answered-some all i w ws skipped size r is far within e now =
     subst (λ l. Answered l (childAt i l) (Some r)) (sym is)
     (subst (λ o. Answered (w ∷ ws) o (Some r)) (sym e)
     (now ∙ ap (take size) (sym front), ap length now ∙ length-take-le size (drop skipped ws) within, omega arith))
-
-pub returns-in-Break-word : need.returns-in-Break-word
-returns-in-Break-word c = record { answer = search needs; law = children-found }
 
 -- the terms before the child end within the words behind the first
 skips : (c : In-Continue-skipped) → c .in-Continue-skipped .skipped ≤ length (c .in-Continue-word .behind .now)
@@ -48,7 +43,7 @@ part-child-start c = skips c
 pub returns-in-Break-size : need.returns-in-Break-size
 returns-in-Break-size c =
     let rest = take-rest (c .in-Continue-word .behind .now) (c .in-Continue-skipped .skipped) in
-    record { answer = grind (arith, rest); law = children-found }
+    grind (arith, rest)
 
 pub returns : need.returns
 returns c =
@@ -61,7 +56,4 @@ returns c =
     let child : childAt (c .args .i) (w ∷ ws) ≡ Some (record { place = 1 + skipped; length = size }) = grind arith in
     let within = ends-within false 1 (drop skipped ws) size ended in
     let all : size - 0 ≡ size = omega arith in
-    record {
-      answer = answered-some _ (c .args .i) w ws skipped size _ (c .in-Continue-word .ensures tt .cases .0) (skips (need.at·returns c .In-Continue-skipped)) within child (ap (λ n. take n (take (length ws - skipped) (drop skipped ws))) all ∙ ap (take size) rest);
-      law = children-found;
-    }
+    answered-some _ (c .args .i) w ws skipped size _ (c .in-Continue-word .ensures tt .cases .0) (skips (need.at·returns c .In-Continue-skipped)) within child (ap (λ n. take n (take (length ws - skipped) (drop skipped ws))) all ∙ ap (take size) rest)

@@ -29,12 +29,12 @@ returns-then-wanted-eq0 c =
 
 pub returns-in-rest : need.returns-in-rest
 returns-in-rest c =
-    let value = word-broken _ _ _ _ (c .loop-i .wanted) (c .loop-i .wanted - 1) (omega arith) (c .loop-i-test .taken) (sym (c .in-rest .ensures tt .value)) (c .loop-i .inv .0) in
+    let value = word-broken _ _ _ _ (c .loop-i .wanted) (c .loop-i .wanted - 1) (omega arith) (c .loop-i-test .taken) (sym (c .in-rest .ensures tt)) (c .loop-i .inv .0) in
     record { value = value; law = ends-if-one _ _ _ _ value }
 
 pub loop-i-again : need.loop-i-again
 loop-i-again c =
-    let wants = sym (c .in-Some .ensures tt .value) ∙ ap Some (sym (c .from .ensures)) in
+    let wants = sym (c .in-Some .ensures tt) ∙ ap Some (sym (c .from .ensures)) in
     let few = wants-few (c .args .variables) (getD (c .args .words .now) (c .loop-i .i) 0) (c .from .result) wants in
     (word-stands _ _ _ _ (c .loop-i .wanted) (c .loop-i .wanted - 1) _ (omega arith) (c .loop-i-test .taken) wants (c .loop-i .inv .0), omega arith)
 

@@ -1,0 +1,9 @@
+pub mod Answering
+pub mod Cutting
+pub mod Firsts
+pub mod Numbering
+pub mod Digited
+pub mod Parted
+pub mod Fielded
+pub mod Worded
+pub mod Spelt
