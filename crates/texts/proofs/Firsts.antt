@@ -11,9 +11,8 @@ use Rattle.std.specs.declared.option.Option.{Option}
 use Rattle.std.specs.declared.option.Option.the-variants.{Some, None}
 use Rattle.std.proofs.shelf.Lists.{length-append, length-take-le, take-append-drop}
 use Rattle.std.proofs.shelf.Tests.{eqb-true}
-use Rattle.texts.specs.declared.text.Piece.{Piece}
-use Rattle.texts.specs.Texts.{Reading, behind, said, numbered, reading, head-line, form-line, table-line, rule-line, broken-line}
-use Rattle.texts.specs.Pieces.{Begins, lineSays}
+use Rattle.texts.specs.Texts.{Reading, behind, said, numbered, head-line, form-line, table-line, rule-line, broken-line}
+use Rattle.texts.specs.Pieces.{Begins}
 
 -- five bytes, one by one
 pub five : (bs : List ℕ) (a b c d e : ℕ) → length bs ≡ 5 → getD bs 0 0 ≡ a → getD bs 1 0 ≡ b → getD bs 2 0 ≡ c → getD bs 3 0 ≡ d → getD bs 4 0 ≡ e → bs ≡ a ∷ b ∷ c ∷ d ∷ e ∷ []
@@ -91,11 +90,3 @@ module _ (bs w r : List ℕ) (front : w ≡ take 5 bs) (back : r ≡ drop 5 bs) 
   pub no-word : Begins w None → said bs ≡ broken-line
   no-word told =
       nothing-said bs (λ s e. told .0 (front ∙ ap (take 5) e)) (λ s e. told .1 (front ∙ ap (take 5) e)) (λ s e. told .2 (front ∙ ap (take 5) e)) (λ s e. told .3 (front ∙ ap (take 5) e))
-
-pub ended-line : (p : Piece) → p .ended ≡ true → lineSays p ≡ said (p .bytes .now)
-unfolding reading
-ended-line p e = rw e
-
-pub unended-line : (p : Piece) → p .ended ≡ false → lineSays p ≡ broken-line
-unfolding reading
-unended-line p e = rw e

@@ -17,7 +17,7 @@ not-broken r u e = rw (← e) at u
 
 -- the first line of a text
 line-first : (bytes rest : List ℕ) → Without 10 bytes → readings (bytes ++ 10 ∷ rest) ≡ said bytes ∷ readings rest
-unfolding readings lines reading
+unfolding readings lines
 line-first bytes rest none = rw (piece-then 10 bytes rest none, lines-ended)
 
 -- a text that spells readings reads as them
@@ -43,7 +43,7 @@ none-read (p ∷ q ∷ qs) text cut e = cc
 
 -- a text of which a line that is not broken is read begins with that line
 one-read : (ps : List (List ℕ)) (text : List ℕ) (r : Reading) (rs : List Reading) → Unbroken r → Cut 10 text ps → said-of ps ≡ r ∷ rs → (bytes : List ℕ) × (rest : List ℕ) × (text ≡ bytes ++ 10 ∷ rest) × (said bytes ≡ r) × (readings rest ≡ rs)
-unfolding linesOf readings lines reading
+unfolding linesOf readings lines
 one-read [] text r rs u cut e = absurd cut
 one-read ([] ∷ []) text r rs u cut e = let z : _≡_ {A = ℕ} 0 1 = cc in absurd (omega arith)
 one-read ((b ∷ bs) ∷ []) text r rs u cut e = absurd (not-broken r u (cc))

@@ -97,11 +97,10 @@ said bs =
     ]
 
 -- a line without byte 10 at its end is broken
-unfoldable pub reading : TextLine → Reading
-unfolding said
+abbrev pub reading : TextLine → Reading
 reading l = elim (l .ended) [ true ↦ said (l .bytes) | false ↦ broken-line ]
 
 -- a text, line by line
 unfoldable pub readings : List ℕ → List Reading
-unfolding reading lines
+unfolding lines
 readings text = map reading (lines text)

@@ -41,10 +41,13 @@ fn digits_value(bytes: &[u8]) -> Option<u32>
 pub(crate) fn read_number(field: &[u8]) -> Option<u32>
     ensures { λ r. ⌜ r ≡ number (now (field .entry)) ⌝ }
 {
-    match field.len() {
-        1..=MOST_DIGITS => digits_value(field),
-        _ => None,
+    if field.is_empty() {
+        return None;
     }
+    if field.len() > MOST_DIGITS {
+        return None;
+    }
+    digits_value(field)
 }
 
 // The values of the fields of a line behind its first; none if one of them is no number field.

@@ -5,7 +5,8 @@ ghost use lib.Chars.{codes};
 ghost use lib.Dec.{eqb};
 ghost use lib.ListN.{length, getD};
 ghost use Rattle.std.specs.Options.{mapped};
-ghost use Rattle.texts.specs.Texts.{byteOf, behind};
+ghost use Rattle.std.specs.declared.option.Option.the-variants.{Some, None};
+ghost use Rattle.texts.specs.Texts.{byteOf, behind, said};
 ghost use Rattle.texts.specs.Pieces.{FirstPiece, NextLine, Begins, lineSays, lineMeans};
 
 // What parts a text: byte 10 its lines, a comma the fields of a line.
@@ -70,14 +71,20 @@ pub(crate) fn cut(text: &[u8], separator: Separator) -> Piece<'_>
     }
 }
 
+// Cuts the first line off a text, if it has one.
+fn cut_line(text: &[u8]) -> Piece<'_>
+    ensures line { λ r. ⌜ (0 < length (now (text .entry)) → NextLine (now (text .entry)) (Some r)) ⌝ }
+    ensures none { λ _. ⌜ (length (now (text .entry)) ≡ 0 → NextLine (now (text .entry)) None) ⌝ }
+{
+    cut(text, Separator::LineEnd)
+}
+
 // The next line of a text; none at its end.
 pub fn next_line(text: &[u8]) -> Option<Piece<'_>>
     ensures { λ r. ⌜ NextLine (now (text .entry)) r ⌝ }
 {
-    if text.is_empty() {
-        return None;
-    }
-    Some(cut(text, Separator::LineEnd))
+    let line = cut_line(text);
+    if text.is_empty() { None } else { Some(line) }
 }
 
 // A line by its first field, with the fields behind it.
@@ -123,18 +130,26 @@ fn behind_comma(bytes: &[u8]) -> Option<&[u8]>
     }
 }
 
-// Reads the first field of a line; none where the line is broken there.
-pub fn first_field(line: Piece<'_>) -> Option<Line<'_>>
-    ensures { λ r. ⌜ lineMeans r ≡ lineSays (line .entry) ⌝ }
+// Reads the first field of a line's bytes; none where the line is broken there.
+fn field_of(bytes: &[u8]) -> Option<Line<'_>>
+    ensures { λ r. ⌜ lineMeans r ≡ said (now (bytes .entry)) ⌝ }
 {
-    if !line.ended {
-        return None;
-    }
-    let (word, behind) = line.bytes.split_first_chunk::<5>()?;
+    let (word, behind) = bytes.split_first_chunk::<5>()?;
     match first_word(word)? {
         Word::Head => Some(Line::Head(behind)),
         Word::Form => Some(Line::Form(behind)),
         Word::Rule => Some(Line::Rule(behind)),
         Word::Table => Some(Line::Table(behind_comma(behind)?)),
+    }
+}
+
+// Reads the first field of a line; a line that byte 10 doesn't end is broken.
+pub fn first_field(line: Piece<'_>) -> Option<Line<'_>>
+    ensures { λ r. ⌜ lineMeans r ≡ lineSays (line .entry) ⌝ }
+{
+    if line.ended {
+        field_of(line.bytes)
+    } else {
+        None
     }
 }
