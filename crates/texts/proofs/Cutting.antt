@@ -1,13 +1,14 @@
 -- The pieces of a text whose first separator is known.
 use mathlib.Core.Path.{_≡_, refl, sym, ap, _∙_}
 use mathlib.Core.Bool.{Bool, true, false}
-use mathlib.Core.List.{List, [], _∷_, map}
+use mathlib.Core.List.{List, [], _∷_, _++_, map}
 use Prim.Native.Nat.{ℕ, zero, suc, _+_, _<_, _≤_}
 use native.Mathlib.Omega.{arith}
 use native.Mathlib.Numerals.{add-one}
 use lib.Dec.{eqb}
-use lib.ListN.{length, getD, take, drop}
+use lib.ListN.{length, getD, take, drop, length-append}
 use Rattle.std.proofs.shelf.Tests.{eq-eqb, ne-eqb}
+use Rattle.std.specs.declared.option.Option.the-variants.{Some}
 use Rattle.std.specs.Orderings.{When}
 use Rattle.texts.specs.declared.text.Piece.{Piece}
 use Rattle.texts.specs.Texts.{TextLine, pieces, grown, linesOf, lines, reading, readings}
@@ -34,6 +35,12 @@ first-piece sep n [] l ne e = absurd (omega arith)
 first-piece sep zero (b ∷ bs) l ne e = parted sep b bs e
 first-piece sep (suc n) (b ∷ bs) l ne e = joined sep b bs (ne 0 (omega arith)) ∙ ap (grown b) (first-piece sep n bs (omega arith) (λ k h. ne (suc k) (omega arith)) e)
 
+-- the text before and behind a separator
+pub cut-at : (sep n : ℕ) (text : List ℕ) → n < length text → getD text n 0 ≡ sep → text ≡ take n text ++ sep ∷ drop (suc n) text
+cut-at sep n [] l e = absurd (omega arith)
+cut-at sep zero (b ∷ bs) l e = ap (λ x. x ∷ bs) e
+cut-at sep (suc n) (b ∷ bs) l e = ap (λ xs. b ∷ xs) (cut-at sep n bs (omega arith) e)
+
 -- the pieces of a text, by its first
 module _ (sep : ℕ) (text : List ℕ) (p : Piece) (cut : FirstPiece sep text p) where
   pub pieces-then : p .ended ≡ true → pieces sep text ≡ p .bytes .now ∷ pieces sep (p .rest .now)
@@ -43,7 +50,9 @@ module _ (sep : ℕ) (text : List ℕ) (p : Piece) (cut : FirstPiece sep text p)
   pieces-only e = rw e at (cut .pieces-are)
 
   pub rest-shorter : p .ended ≡ true → length (p .rest .now) < length text
-  rest-shorter e = rw e at (cut .rest-is)
+  rest-shorter e =
+      let parts : text ≡ p .bytes .now ++ sep ∷ p .rest .now = rw e at (cut .stretch) in
+      omega (arith, ap length parts, length-append (p .bytes .now) (sep ∷ p .rest .now))
 
   pub pieces-begin : (ps : List (List ℕ)) × (pieces sep text ≡ p .bytes .now ∷ ps)
   pieces-begin = by (p .ended) refl
@@ -82,16 +91,16 @@ no-lines [] l = refl
 no-lines (b ∷ bs) l = absurd (omega arith)
 
 -- the first piece of a text that is not empty is its next line
-pub next-line : (text : List ℕ) (p : Piece) → 0 < length text → FirstPiece 10 text p → (readings text ≡ lineSays p ∷ readings (p .rest .now)) × (length (p .rest .now) < length text)
+pub next-line : (text : List ℕ) (p : Piece) → 0 < length text → FirstPiece 10 text p → NextLine text (Some p)
 unfolding readings lines
 next-line text p some cut = by (p .ended) refl
   where
-    by : (t : Bool) → p .ended ≡ t → (readings text ≡ lineSays p ∷ readings (p .rest .now)) × (length (p .rest .now) < length text)
+    by : (t : Bool) → p .ended ≡ t → NextLine text (Some p)
     by true e =
         let are = pieces-then 10 text p cut e in
-        (rw (are, lines-ended, e), rest-shorter 10 text p cut e)
+        (rw (are, lines-ended, e), cut .stretch)
     by false e =
         let are = pieces-only 10 text p cut e in
-        let all : (p .bytes .now ≡ text) × (p .rest .now ≡ []) = rw e at (cut .rest-is) in
+        let all : (text ≡ p .bytes .now) × (p .rest .now ≡ []) = rw e at (cut .stretch) in
         let long : 0 < length (p .bytes .now) = omega (arith, ap length (all .0)) in
-        (rw (are, lines-last (p .bytes .now) long, e, all .1, no-lines [] refl), omega (arith, ap length (all .1)))
+        (rw (are, lines-last (p .bytes .now) long, e, all .1, no-lines [] refl), cut .stretch)

@@ -1,9 +1,8 @@
 -- The first piece of a text, and what is behind it.
 use mathlib.Core.Path.{_≡_}
-use mathlib.Core.List.{List, [], _∷_}
-use Prim.Native.Nat.{ℕ, _<_}
+use mathlib.Core.List.{List, [], _∷_, _++_}
+use Prim.Native.Nat.{ℕ}
 use lib.Chars.{codes}
-use lib.ListN.{length}
 use Rattle.std.specs.Orderings.{When}
 use Rattle.texts.specs.declared.text.Piece.{Piece}
 use Rattle.std.specs.declared.option.Option.{Option}
@@ -17,16 +16,16 @@ use Rattle.texts.specs.declared.text.Word.the-variants.{Head, Form, Table, Rul
 -- p is the text's first piece; the others are the pieces of the rest, if a separator ended the first, else there are none
 pub record FirstPiece (sep : ℕ) (text : List ℕ) (p : Piece) : Type 0 where
   pub pieces-are : When (p .ended) (pieces sep text ≡ p .bytes .now ∷ pieces sep (p .rest .now)) (pieces sep text ≡ p .bytes .now ∷ [])
-  pub rest-is : When (p .ended) (length (p .rest .now) < length text) ((p .bytes .now ≡ text) × (p .rest .now ≡ []))
+  pub stretch : When (p .ended) (text ≡ p .bytes .now ++ sep ∷ p .rest .now) ((text ≡ p .bytes .now) × (p .rest .now ≡ []))
 
 -- what the line that a piece is says
 abbrev pub lineSays : Piece → Reading
 lineSays p = reading (record { bytes = p .bytes .now; ended = p .ended })
 
--- p is the text's next line, with the text's other lines behind it; none at the text's end
+-- p is the text's next line, a stretch of the text, with the text's other lines behind it; none at the text's end
 abbrev pub NextLine : List ℕ → Option Piece → Type 0
 NextLine text None = readings text ≡ []
-NextLine text (Some p) = (readings text ≡ lineSays p ∷ readings (p .rest .now)) × (length (p .rest .now) < length text)
+NextLine text (Some p) = (readings text ≡ lineSays p ∷ readings (p .rest .now)) × When (p .ended) (text ≡ p .bytes .now ++ 10 ∷ p .rest .now) ((text ≡ p .bytes .now) × (p .rest .now ≡ []))
 
 -- which word five bytes begin with: none is the other case
 abbrev pub Begins : List ℕ → Option Word → Type 0
