@@ -1,0 +1,273 @@
+// First words, number fields, and the ranges of the two first lines.
+use crate::case::Answer::Accepted;
+use crate::case::Answer::Refused;
+use crate::case::Case;
+use crate::case::HEADER;
+use crate::case::TABLE;
+
+pub const CASES: &[Case] = &[
+    Case {
+        name: "no field behind the first word",
+        header: b"head\nform,64,2\n",
+        table: TABLE,
+        answer: Refused(11, 1),
+    },
+    Case {
+        name: "a first word cut short",
+        header: b"hea,1,1,1\nform,64,2\n",
+        table: TABLE,
+        answer: Refused(11, 1),
+    },
+    Case {
+        name: "a first word drawn out",
+        header: b"heads,1,1,1\nform,64,2\n",
+        table: TABLE,
+        answer: Refused(11, 1),
+    },
+    Case {
+        name: "a first word in capitals",
+        header: b"HEAD,1,1,1\nform,64,2\n",
+        table: TABLE,
+        answer: Refused(11, 1),
+    },
+    Case {
+        name: "a space before the first word",
+        header: b" head,1,1,1\nform,64,2\n",
+        table: TABLE,
+        answer: Refused(11, 1),
+    },
+    Case {
+        name: "the table's first word drawn out",
+        header: HEADER,
+        table: b"tables,1,1\n",
+        answer: Refused(11, 1001),
+    },
+    Case {
+        name: "the table's first word alone",
+        header: HEADER,
+        table: b"table\n",
+        answer: Refused(11, 1001),
+    },
+    Case {
+        name: "a field too few in the header",
+        header: b"head,1,1\nform,64,2\n",
+        table: TABLE,
+        answer: Refused(11, 1),
+    },
+    Case {
+        name: "a field too many in the header",
+        header: b"head,1,1,1,1\nform,64,2\n",
+        table: TABLE,
+        answer: Refused(11, 1),
+    },
+    Case {
+        name: "a comma too many in the header",
+        header: b"head,1,1,1,\nform,64,2\n",
+        table: TABLE,
+        answer: Refused(11, 1),
+    },
+    Case {
+        name: "a field too few in the table",
+        header: HEADER,
+        table: b"table,1\n",
+        answer: Refused(11, 1001),
+    },
+    Case {
+        name: "a field too many in the table",
+        header: HEADER,
+        table: b"table,1,1,1\n",
+        answer: Refused(11, 1001),
+    },
+    Case {
+        name: "an empty field",
+        header: b"head,,1,1\nform,64,2\n",
+        table: TABLE,
+        answer: Refused(11, 1),
+    },
+    Case {
+        name: "an empty last field",
+        header: b"head,1,1,\nform,64,2\n",
+        table: TABLE,
+        answer: Refused(11, 1),
+    },
+    Case {
+        name: "an empty count",
+        header: b"head,1,1,1\nform,64,\n",
+        table: TABLE,
+        answer: Refused(11, 2),
+    },
+    Case {
+        name: "a space before a number",
+        header: b"head, 1,1,1\nform,64,2\n",
+        table: TABLE,
+        answer: Refused(11, 1),
+    },
+    Case {
+        name: "a sign before a number",
+        header: b"head,+1,1,1\nform,64,2\n",
+        table: TABLE,
+        answer: Refused(11, 1),
+    },
+    Case {
+        name: "a letter in a number",
+        header: b"head,1,1,1\nform,6a,2\n",
+        table: TABLE,
+        answer: Refused(11, 2),
+    },
+    Case {
+        name: "the byte before the digits",
+        header: b"head,1,1,/\nform,64,2\n",
+        table: TABLE,
+        answer: Refused(11, 1),
+    },
+    Case {
+        name: "the byte behind the digits",
+        header: b"head,1,1,:\nform,64,2\n",
+        table: TABLE,
+        answer: Refused(11, 1),
+    },
+    Case {
+        name: "carriage returns",
+        header: b"head,1,1,1\r\nform,64,2\r\n",
+        table: TABLE,
+        answer: Refused(11, 1),
+    },
+    Case {
+        name: "a carriage return in a form's line",
+        header: b"head,1,1,1\nform,64,2\r\n",
+        table: TABLE,
+        answer: Refused(11, 2),
+    },
+    Case {
+        name: "eight digits with leading zeros",
+        header: b"head,00000001,00000001,00000001\nform,00000064,00000002\n",
+        table: b"table,00000001,00000001\nrule,00000000,00000003,00000001,64,2,2,0,2,1,38,00000000\n",
+        answer: Accepted(1, 1, 1),
+    },
+    Case {
+        name: "nine digits in the header",
+        header: b"head,000000001,1,1\nform,64,2\n",
+        table: TABLE,
+        answer: Refused(11, 1),
+    },
+    Case {
+        name: "nine digits in a form's line",
+        header: b"head,1,1,1\nform,64,000000002\n",
+        table: TABLE,
+        answer: Refused(11, 2),
+    },
+    Case {
+        name: "nine digits in a rule's line",
+        header: HEADER,
+        table: b"table,1,1\nrule,0,3,1,64,2,2,0,2,1,38,000000000\n",
+        answer: Refused(11, 1002),
+    },
+    Case {
+        name: "the largest number",
+        header: HEADER,
+        table: b"table,1,1\nrule,0,3,3,64,2,2,0,2,1,21,2,0,16777215,2,0\n",
+        answer: Accepted(1, 1, 1),
+    },
+    Case {
+        name: "a number past the largest",
+        header: HEADER,
+        table: b"table,1,1\nrule,0,3,3,64,2,2,0,2,1,21,2,0,16777216,2,0\n",
+        answer: Refused(11, 1002),
+    },
+    Case {
+        name: "the largest number of eight digits",
+        header: HEADER,
+        table: b"table,1,1\nrule,0,3,3,64,2,2,0,2,1,21,2,0,99999999,2,0\n",
+        answer: Refused(11, 1002),
+    },
+    Case {
+        name: "layer 0",
+        header: b"head,0,1,1\nform,32,2\n",
+        table: TABLE,
+        answer: Refused(11, 1),
+    },
+    Case {
+        name: "layer 6",
+        header: b"head,6,1,1\nform,224,0\n",
+        table: b"table,6,1\nrule,0,1,1,224,0,38,0\n",
+        answer: Accepted(6, 1, 1),
+    },
+    Case {
+        name: "layer 7",
+        header: b"head,7,1,1\nform,255,2\n",
+        table: TABLE,
+        answer: Refused(11, 1),
+    },
+    Case {
+        name: "a layer past the largest number",
+        header: b"head,16777217,1,1\nform,64,2\n",
+        table: TABLE,
+        answer: Refused(11, 1),
+    },
+    Case {
+        name: "no form",
+        header: b"head,1,0,1\n",
+        table: TABLE,
+        answer: Refused(11, 1),
+    },
+    Case {
+        name: "33 forms",
+        header: b"head,1,33,1\nform,64,2\n",
+        table: TABLE,
+        answer: Refused(11, 1),
+    },
+    Case {
+        name: "no rule",
+        header: b"head,1,1,0\nform,64,2\n",
+        table: b"table,1,0\n",
+        answer: Refused(11, 1),
+    },
+    Case {
+        name: "33 rules",
+        header: b"head,1,1,33\nform,64,2\n",
+        table: b"table,1,33\n",
+        answer: Refused(11, 1),
+    },
+    Case {
+        name: "layer 0 in the table",
+        header: HEADER,
+        table: b"table,0,1\n",
+        answer: Refused(11, 1001),
+    },
+    Case {
+        name: "layer 7 in the table",
+        header: HEADER,
+        table: b"table,7,1\n",
+        answer: Refused(11, 1001),
+    },
+    Case {
+        name: "no rule in the table",
+        header: HEADER,
+        table: b"table,1,0\n",
+        answer: Refused(11, 1001),
+    },
+    Case {
+        name: "33 rules in the table",
+        header: HEADER,
+        table: b"table,1,33\n",
+        answer: Refused(11, 1001),
+    },
+    Case {
+        name: "the table has another layer",
+        header: HEADER,
+        table: b"table,2,1\nrule,0,3,1,64,2,2,0,2,1,38,0\n",
+        answer: Refused(12, 1001),
+    },
+    Case {
+        name: "the table has fewer rules",
+        header: b"head,1,1,2\nform,64,2\n",
+        table: TABLE,
+        answer: Refused(12, 1001),
+    },
+    Case {
+        name: "the table has more rules",
+        header: HEADER,
+        table: b"table,1,2\nrule,0,3,1,64,2,0,0,2,1,38,0\nrule,1,3,1,64,2,0,1,2,1,38,0\n",
+        answer: Refused(12, 1001),
+    },
+];

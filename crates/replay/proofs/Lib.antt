@@ -1,0 +1,2 @@
+mod Wording
+mod Words
