@@ -4,7 +4,7 @@ use mathlib.Core.Bool.{Bool, true, false}
 use mathlib.Core.List.{List, [], _∷_, _++_}
 use Prim.Native.Nat.{ℕ, zero, suc, _+_, _<_}
 use native.Mathlib.Omega.{arith}
-use lib.Dec.{eqb, lit<}
+use lib.Dec.{lit<}
 use lib.ListN.{length, getD, drop}
 use lib.Utf8.{encode}
 use Rattle.std.specs.declared.option.Option.{Option}
@@ -12,10 +12,13 @@ use Rattle.std.specs.declared.option.Option.the-variants.{Some, None}
 use Rattle.std.specs.declared.result.Result.{Result}
 use Rattle.std.specs.Finds.{BeginsChar, peeled, Peeled, Stops}
 use Rattle.std.proofs.shelf.Patterns.{drop-at-char}
-use Rattle.std.proofs.shelf.Tests.{ne-eqb}
+use Rattle.std.proofs.shelf.Elements.{all-from-getD}
 use Rattle.replay.specs.declared.command.Command.{Command}
 use Rattle.replay.specs.declared.command.Misread.{Misread}
-use Rattle.replay.specs.Commands.{grown, pieces, filledOf, wordsOf, Asks}
+use Rattle.texts.specs.Texts.{pieces}
+use Rattle.texts.proofs.Cutting.{one-piece}
+use Rattle.texts.proofs.Parted.{piece-then}
+use Rattle.replay.specs.Commands.{filledOf, wordsOf, Asks}
 
 -- no space stands in it
 abbrev pub Unspaced : List ℕ → Type 0
@@ -39,19 +42,8 @@ unfolding encode
 begun r (None, bare, z) rest e = bare rest e
 begun r (Some n, at, z) rest e = absurd (omega (arith, at .ends, z))
 
-joined : (b : ℕ) (bs : List ℕ) → (b ≡ 32 → ⊥) → pieces (b ∷ bs) ≡ grown b (pieces bs)
-unfolding pieces
-joined b bs ne = rw (ne-eqb b 32 ne, pieces)
-
-one-piece : (bs : List ℕ) → Unspaced bs → pieces bs ≡ bs ∷ []
-unfolding pieces grown
-one-piece [] ne = refl
-one-piece (b ∷ bs) ne = joined b bs (ne 0 (omega arith)) ∙ ap (grown b) (one-piece bs (λ k l. ne (suc k) (omega arith)))
-
-first-piece : (xs ys : List ℕ) → Unspaced xs → pieces (xs ++ (32 ∷ ys)) ≡ xs ∷ pieces ys
-unfolding pieces grown
-first-piece [] ys ne = refl
-first-piece (x ∷ xs) ys ne = joined x (xs ++ (32 ∷ ys)) (ne 0 (omega arith)) ∙ ap (grown x) (first-piece xs ys (λ k l. ne (suc k) (omega arith)))
+first-piece : (xs ys : List ℕ) → Unspaced xs → pieces 32 (xs ++ (32 ∷ ys)) ≡ xs ∷ pieces 32 ys
+first-piece xs ys ne = piece-then 32 xs ys (all-from-getD (λ b. b ≡ 32 → ⊥) xs 0 ne)
 
 -- a line that does not begin with a space, by its first space
 pub words-cut : (line xs ys : List ℕ) → line ≡ xs ++ (32 ∷ ys) → Unspaced xs → Begun line → wordsOf line ≡ xs ∷ wordsOf ys
@@ -62,7 +54,7 @@ words-cut line (x ∷ xs) ys e ne first = ap wordsOf e ∙ ap filledOf (first-pi
 pub words-one : (line : List ℕ) → Unspaced line → 0 < length line → wordsOf line ≡ line ∷ wordsOf []
 unfolding wordsOf filledOf pieces
 words-one [] ne l = absurd (omega arith)
-words-one (b ∷ bs) ne l = ap filledOf (one-piece (b ∷ bs) ne)
+words-one (b ∷ bs) ne l = ap filledOf (one-piece 32 (b ∷ bs) ne)
 
 pub words-none : (line : List ℕ) → length line ≡ 0 → wordsOf line ≡ []
 unfolding wordsOf filledOf pieces

@@ -1,43 +1,32 @@
 -- What a line of a job asks for, by its words.
 use mathlib.Core.Path.{_≡_}
-use mathlib.Core.Bool.{Bool, true, false}
 use mathlib.Core.List.{List, [], _∷_}
 use mathlib.Core.Logic.{_⊎_}
 use Prim.Native.Nat.{ℕ}
 use denote.Ref.{RefT}
 use lib.Chars.{codes}
-use lib.Dec.{eqb}
 use lib.ListN.{length, getD}
 use Rattle.std.specs.declared.option.Option.{Option}
 use Rattle.std.specs.declared.result.Result.{Result}
 use Rattle.std.specs.declared.result.Result.the-variants.{Ok, Err}
 use Rattle.std.specs.Options.{Cases}
+use Rattle.texts.specs.Texts.{pieces}
 use Rattle.replay.specs.declared.command.Command.{Command}
 use Rattle.replay.specs.declared.command.Command.the-variants.{Nothing, Held}
 use Rattle.replay.specs.declared.command.Command.the-variants as command
 use Rattle.replay.specs.declared.command.Misread.{Misread}
 use Rattle.replay.specs.declared.command.Misread.the-variants.{Unknown, WrongWords}
 
--- one more byte in front of the first piece
-unfoldable pub grown : ℕ → List (List ℕ) → List (List ℕ)
-grown b [] = (b ∷ []) ∷ []
-grown b (p ∷ ps) = (b ∷ p) ∷ ps
-
--- the pieces of a line between its spaces, empty ones too
-unfoldable pub pieces : List ℕ → List (List ℕ)
-unfolding grown
-pieces [] = [] ∷ []
-pieces (b ∷ bs) = elim (eqb b 32) [ true ↦ [] ∷ pieces bs | false ↦ grown b (pieces bs) ]
-
+-- the pieces that are not empty
 unfoldable pub filledOf : List (List ℕ) → List (List ℕ)
 filledOf [] = []
 filledOf ([] ∷ ps) = filledOf ps
 filledOf ((b ∷ bs) ∷ ps) = (b ∷ bs) ∷ filledOf ps
 
--- the words of a line: its pieces that are not empty
+-- the words of a line: its pieces between spaces that are not empty
 unfoldable pub wordsOf : List ℕ → List (List ℕ)
 unfolding pieces filledOf
-wordsOf line = filledOf (pieces line)
+wordsOf line = filledOf (pieces 32 line)
 
 -- the first of these words, and a line with the others
 abbrev pub FirstOf : List (List ℕ) → Option (RefT (List ℕ) × RefT (List ℕ)) → Type 0
