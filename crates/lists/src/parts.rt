@@ -20,8 +20,8 @@ pub struct Rule {
 }
 
 // What the header's first line declares: the layer, how many forms, how many rules.
-#[derive(Clone, Copy, Debug, PartialEq, Eq)]
-pub struct Head {
+#[derive(Clone, Copy)]
+pub(crate) struct Head {
     pub layer: u32,
     pub forms: u32,
     pub rules: u32,
@@ -29,7 +29,7 @@ pub struct Head {
 
 // A header: its first line, and the forms of its other lines.
 #[derive(Drop)]
-pub struct Header {
+pub(crate) struct Header {
     pub head: Head,
     pub forms: Vec<Form>,
 }
