@@ -1,5 +1,6 @@
 // What becomes of the two texts of a list.
 ghost use mathlib.Core.Path.{_≡_};
+ghost use lib.ListN.{length};
 ghost use Rattle.lists.specs.Held.{listedIn};
 ghost use Rattle.replay.specs.Verdicts.{summaryOf, Judged};
 use lists::list::RuleList;
@@ -14,6 +15,12 @@ pub struct Summary {
     pub rules: usize,
 }
 
+fn rule_count(list: &RuleList) -> usize
+    ensures { λ r. ⌜ r ≡ length (listedIn (now (list .entry)) .rules) ⌝ }
+{
+    list.rules().len()
+}
+
 impl Summary {
     pub fn of(list: &RuleList) -> Summary
         ensures { λ r. ⌜ r ≡ summaryOf (listedIn (now (list .entry))) ⌝ }
@@ -21,7 +28,7 @@ impl Summary {
         Summary {
             layer: list.layer(),
             forms: list.forms().len(),
-            rules: list.rules().len(),
+            rules: rule_count(list),
         }
     }
 }
