@@ -1,17 +1,17 @@
 -- Acceptance, from the header to the list.
-use mathlib.Core.Path.{_≡_, refl, sym, ap, _∙_}
-use mathlib.Core.Bool.{Bool, true, false, _&&_}
-use mathlib.Core.List.{List, [], _∷_, map}
-use Prim.Native.Nat.{ℕ, _≤_, _<_}
+use mathlib.Core.Path.{_≡_, sym, ap, _∙_}
+use mathlib.Core.Bool.{true, false, _&&_}
+use mathlib.Core.List.{List, [], map}
+use Prim.Native.Nat.{ℕ, _≤_}
 use native.Mathlib.Omega.{arith}
 use lib.Dec.{leb}
 use lib.ListN.{length}
 use Rattle.std.specs.declared.option.Option.{Option}
-use Rattle.std.specs.declared.option.Option.the-variants.{Some, None}
 use Rattle.std.specs.declared.result.Result.{Result}
 use Rattle.std.specs.declared.result.Result.the-variants.{Ok, Err}
 use Rattle.std.proofs.shelf.Lists.{length-map}
 use Rattle.std.proofs.shelf.Tests.{and-parts, leb-true}
+use Rattle.terms.specs.Words.{isLayer}
 use Rattle.lists.specs.declared.parts.Form.{Form}
 use Rattle.lists.specs.declared.parts.Head.{Head}
 use Rattle.lists.specs.declared.parts.Rule.{Rule}
@@ -19,8 +19,8 @@ use Rattle.lists.specs.declared.refusal.Refusal.{Refusal}
 use Rattle.lists.specs.declared.refusal.Refusal.the-variants.{TextTooLong}
 use Rattle.texts.specs.Texts.{Reading, readings}
 use Rattle.lists.specs.Lines.{Sides, Declared, sidesOf, judgeHeader, judgeTable}
-use Rattle.lists.specs.Sound.{isLayer, rising}
-use Rattle.lists.specs.Acceptance.{Listed, shortEnough, accepted, withHeader, withTable, unlessFault, faultIn}
+use Rattle.lists.specs.Sound.{rising}
+use Rattle.lists.specs.Acceptance.{shortEnough, accepted, withHeader, withTable, unlessFault, faultIn}
 use Rattle.lists.proofs.Keeping.{header-read, table-read, lines-read}
 use Rattle.lists.proofs.Patterns.{head-says}
 use Rattle.lists.proofs.Rising.{forms-rise}

@@ -1,14 +1,14 @@
 -- Left sides that overlap, and rules of which no two do: the tests as statements, both ways.
 use mathlib.Core.Path.{_≡_, refl, sym, ap, subst, _∙_}
-use mathlib.Core.Bool.{Bool, true, false, not, _&&_, _||_}
+use mathlib.Core.Bool.{Bool, true, false, not}
 use mathlib.Core.List.{List, [], _∷_, _++_}
-use mathlib.Core.Logic.{_⊎_, inl, inr, ⊎-elim}
+use mathlib.Core.Logic.{_⊎_, ⊎-elim}
 use Prim.Native.Nat.{ℕ, zero, suc, _<_}
 use native.Mathlib.Omega.{arith}
 use lib.Dec.{eqb}
 use lib.ListN.{length, getD}
 use Rattle.std.specs.shelf.Lists.{All, Has}
-use Rattle.std.proofs.shelf.Elements.{has-append-left, has-push, has-push-cases, all-has, all-has-itself, has-getD}
+use Rattle.std.proofs.shelf.Elements.{has-append-left, has-push, has-push-cases}
 use Rattle.std.proofs.shelf.Tests.{and-parts, and-from, eq-eqb, eqb-true, both-ways, not-true, not-from-false, false≢true}
 use Rattle.lists.specs.declared.parts.Form.{Form}
 use Rattle.lists.specs.Lines.{Sides}

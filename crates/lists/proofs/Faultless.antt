@@ -1,16 +1,15 @@
 -- A list has no fault exactly when it passes the tests that every list passes.
-use mathlib.Core.Path.{_≡_, refl, sym, ap, _∙_}
-use mathlib.Core.Bool.{Bool, true, false, cond, not, _&&_}
+use mathlib.Core.Path.{_≡_, refl, ap}
+use mathlib.Core.Bool.{Bool, true, false, cond, not}
 use mathlib.Core.List.{List, [], _∷_, _++_}
 use Prim.Native.Nat.{ℕ, suc}
-use lib.ListN.{length}
 use Rattle.std.specs.declared.option.Option.{Option}
 use Rattle.std.specs.declared.option.Option.the-variants.{Some, None}
 use Rattle.std.specs.Options.{orOther}
 use Rattle.std.proofs.shelf.Tests.{and-parts, and-from, not-from-false, not-true}
 use Rattle.lists.specs.declared.parts.Form.{Form}
 use Rattle.lists.specs.declared.refusal.Refusal.{Refusal}
-use Rattle.lists.specs.declared.refusal.Refusal.the-variants.{WrongShape, WrongVariables, Overlap, NoRule}
+use Rattle.lists.specs.declared.refusal.Refusal.the-variants.{Overlap}
 use Rattle.lists.specs.Lines.{Sides}
 use Rattle.lists.specs.Sides.{every, any, shaped, linear, isFor}
 use Rattle.lists.specs.Sound.{allShaped, allLinear, overlapsSome, noneOverlapFrom, noneOverlap, allRuled}

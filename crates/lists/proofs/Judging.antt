@@ -1,6 +1,6 @@
 -- The lines behind a text's first, judged one by one.
-use mathlib.Core.Path.{_≡_, refl, sym, ap, _∙_}
-use mathlib.Core.Bool.{Bool, true, false, _&&_}
+use mathlib.Core.Path.{_≡_, refl}
+use mathlib.Core.Bool.{false, _&&_}
 use mathlib.Core.Logic.{_⊎_}
 use mathlib.Core.List.{List, [], _∷_, _++_}
 use Prim.Native.Nat.{ℕ, zero, suc, _<_}
@@ -19,7 +19,7 @@ use Rattle.lists.specs.declared.refusal.Refusal.the-variants.{LineBroken, Line
 use Rattle.texts.specs.Texts.{Reading}
 use Rattle.lists.specs.declared.parts.Head.{Head}
 use Rattle.lists.specs.declared.refusal.Place.the-variants as place
-use Rattle.lists.specs.Lines.{Sides, Answers, judgeLines, lastFrom, lastLabel, headLine, tableLine, withForms, judgeForms, judgeRules, judgeHeader, judgeTable}
+use Rattle.lists.specs.Lines.{Answers, judgeLines, lastFrom, lastLabel, headLine, tableLine, withForms, judgeForms, judgeRules, judgeHeader, judgeTable}
 
 module _ {X : Type 0} (at : ℕ → Place) (reads : List X → Reading → Option X) (read : List X) (i : ℕ) (read-i : length read ≡ i) where
   abbrev judged : ℕ → List Reading → Result (List X) Refusal

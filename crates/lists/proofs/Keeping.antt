@@ -1,29 +1,25 @@
 -- What a header and a table keep whose lines are in order, and what a list keeps that has no fault.
 use mathlib.Core.Path.{_≡_, refl, sym, ap, subst, _∙_}
-use mathlib.Core.Bool.{Bool, true, false, cond, not, _&&_, _||_}
+use mathlib.Core.Bool.{Bool, true, false, not, _&&_}
 use mathlib.Core.List.{List, [], _∷_, _++_, append-nil, append-assoc}
-use Prim.Native.Nat.{ℕ, zero, suc, _+_, _<_, _≤_}
+use Prim.Native.Nat.{ℕ, zero, suc, _+_}
 use native.Mathlib.Omega.{arith}
-use lib.Dec.{eqb, leb, ltb}
+use lib.Dec.{eqb, leb}
 use lib.ListN.{length}
 use Rattle.std.specs.declared.option.Option.{Option}
 use Rattle.std.specs.declared.option.Option.the-variants.{Some, None}
 use Rattle.std.specs.declared.result.Result.{Result}
 use Rattle.std.specs.declared.result.Result.the-variants.{Ok, Err}
-use Rattle.std.specs.Options.{orOther}
-use Rattle.std.proofs.shelf.Tests.{and-parts, and-from, leb-true, not-from-false, eqb-true}
+use Rattle.std.proofs.shelf.Tests.{and-parts, eqb-true}
 use Rattle.lists.specs.declared.parts.Form.{Form}
 use Rattle.lists.specs.declared.parts.Head.{Head}
 use Rattle.lists.specs.declared.refusal.Place.{Place}
 use Rattle.lists.specs.declared.refusal.Place.the-variants as place
 use Rattle.lists.specs.declared.refusal.Refusal.{Refusal}
-use Rattle.lists.specs.declared.refusal.Refusal.the-variants.{LineBroken, LineMissing, LineExtra, TableDiffers, WrongShape, WrongVariables, Overlap, NoRule}
+use Rattle.lists.specs.declared.refusal.Refusal.the-variants.{LineBroken, TableDiffers, Overlap}
 use Rattle.texts.specs.Texts.{Reading}
 use Rattle.lists.specs.Lines.{Sides, Declared, judgeLines, headLine, judgeForms, judgeRules, withForms, judgeHeader, tableLine, judgeTable}
-use Rattle.lists.specs.Sides.{every, any, shaped, linear, isFor}
-use Rattle.lists.specs.Sound.{isLayer, risingFrom, rising, overlapsSome, noneOverlapFrom}
-use Rattle.lists.specs.Acceptance.{Listed, sideFault, overlapFault, formFault, faultIn}
-use Rattle.texts.proofs.Answering.{err-not-ok, some-not-none, same-ok}
+use Rattle.texts.proofs.Answering.{err-not-ok, same-ok}
 
 -- the lines read as the elements, one by one, each behind those before it
 module _ {X : Type 0} (at : ℕ → Place) (reads : List X → Reading → Option X) where

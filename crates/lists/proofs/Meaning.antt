@@ -1,6 +1,6 @@
 -- What acceptance means: accepted lists are proper and spelled by the texts, and proper lists that are spelled are accepted.
 use mathlib.Core.Path.{_≡_, refl, sym, ap, subst, _∙_}
-use mathlib.Core.Bool.{Bool, true, false, cond, _&&_}
+use mathlib.Core.Bool.{Bool, true, false, _&&_}
 use mathlib.Core.List.{List, [], _∷_, map}
 use mathlib.Core.Logic.{_⊎_, inl, inr, ⊎-elim}
 use Prim.Native.Nat.{ℕ, suc, _<_, _≤_}
@@ -12,19 +12,19 @@ use Rattle.std.specs.declared.option.Option.the-variants.{Some, None}
 use Rattle.std.specs.declared.result.Result.{Result}
 use Rattle.std.specs.declared.result.Result.the-variants.{Ok, Err}
 use Rattle.std.specs.Results.{mapped}
-use Rattle.std.specs.shelf.Lists.{All, Has}
+use Rattle.std.specs.shelf.Lists.{All}
 use Rattle.std.proofs.shelf.Elements.{all-has}
 use Rattle.std.proofs.shelf.Tests.{and-parts, and-from, leb-true, le-leb, false≢true}
 use Rattle.lists.specs.declared.parts.Form.{Form}
 use Rattle.lists.specs.declared.parts.Head.{Head}
 use Rattle.lists.specs.declared.refusal.Refusal.{Refusal}
 use Rattle.lists.specs.declared.refusal.Refusal.the-variants.{TextTooLong}
-use Rattle.texts.specs.Texts.{Reading, readings, head-line, table-line}
+use Rattle.texts.specs.Texts.{readings, head-line, table-line}
 use Rattle.texts.specs.Laws.{Unbroken}
 use Rattle.texts.proofs.Spelt.{read-if-spelled, spelled-if-read}
 use Rattle.lists.specs.Lines.{Sides, Declared, Answers, within, withForms, judgeHeader, judgeTable}
 use Rattle.lists.specs.Sides.{shaped, linear, leftShaped, rightShaped, onceEach, every, bound, formWord}
-use Rattle.lists.specs.Sound.{isLayer, rising}
+use Rattle.lists.specs.Sound.{rising}
 use Rattle.lists.specs.Acceptance.{Listed, shortEnough, faultIn, unlessFault, withHeader, withTable, accepted}
 use Rattle.lists.specs.Spelling.{headerSays, tableSays, formSays, rulesSay}
 use Rattle.lists.specs.Laws.{Proper, LeftSide, RightSide, OncePlaced, FromLeft, Accepted-are-proper, Proper-are-accepted, Means}
@@ -32,7 +32,7 @@ use Rattle.texts.proofs.Answering.{err-not-ok, same-ok}
 use Rattle.lists.proofs.Judging.{header-is, table-is}
 use Rattle.lists.proofs.Keeping.{header-read, table-read, lines-read, lines-judged}
 use Rattle.lists.proofs.Patterns.{head-says, head-fits, table-says, table-fits}
-use Rattle.lists.proofs.Rising.{FormsRead, forms-rise, rising-read, rise, risen, form-words}
+use Rattle.lists.proofs.Rising.{forms-rise, rising-read, rise, risen, form-words}
 use Rattle.lists.proofs.Ruled.{Sized, InWords, rules-said, said-rules}
 use Rattle.lists.proofs.Faultless.{Faultless, no-fault, faultless}
 use Rattle.lists.proofs.Accepting.{by-table}

@@ -1,18 +1,17 @@
 -- The patterns of the four kinds of line: what a line says that fits, and what fits.
-use mathlib.Core.Path.{_≡_, refl, sym, ap, _∙_}
-use mathlib.Core.Bool.{Bool, true, false, cond, _&&_}
-use mathlib.Core.List.{List, [], _∷_, _++_}
-use Prim.Native.Nat.{ℕ, _+_, _*_}
+use mathlib.Core.Path.{_≡_, sym, ap, _∙_}
+use mathlib.Core.Bool.{true, _&&_}
+use mathlib.Core.List.{List, [], _∷_}
+use Prim.Native.Nat.{ℕ, _+_}
 use lib.Dec.{eqb, leb, ltb}
-use lib.ListN.{length, take, drop}
 use Rattle.std.specs.declared.option.Option.{Option}
-use Rattle.std.specs.declared.option.Option.the-variants.{Some, None}
-use Rattle.std.proofs.shelf.Tests.{and-parts, and-from, eqb-true, eq-eqb}
+use Rattle.std.specs.declared.option.Option.the-variants.{Some}
+use Rattle.std.proofs.shelf.Tests.{and-parts, and-from}
 use Rattle.lists.specs.declared.parts.Form.{Form}
 use Rattle.lists.specs.declared.parts.Head.{Head}
 use Rattle.texts.specs.Texts.{Reading, head-line, form-line, table-line, rule-line, broken-line}
-use Rattle.lists.specs.Lines.{Sides, within, owned, headLine, formLine, tableLine, ruleLine, sidesFrom, wordsOf}
-use Rattle.texts.proofs.Answering.{none-not-some, some-not-none, tested}
+use Rattle.lists.specs.Lines.{within, owned, headLine, formLine, tableLine}
+use Rattle.texts.proofs.Answering.{none-not-some, tested}
 
 -- the header's first line
 abbrev pub HeadFits : Head → Type 0

@@ -1,15 +1,15 @@
 -- Variables that stand once, and on the right only if on the left: the tests as statements, both ways.
-use mathlib.Core.Path.{_≡_, refl, sym, ap, _∙_}
-use mathlib.Core.Bool.{Bool, true, false, not, _&&_, _||_}
+use mathlib.Core.Path.{_≡_, refl, sym, _∙_}
+use mathlib.Core.Bool.{Bool, true, false, not, _||_}
 use mathlib.Core.List.{List, [], _∷_}
 use Prim.Native.Nat.{ℕ, zero, suc, _<_}
 use native.Mathlib.Omega.{arith}
 use lib.Dec.{eqb}
 use lib.ListN.{length, getD}
-use Rattle.std.specs.shelf.Lists.{All, Has}
+use Rattle.std.specs.shelf.Lists.{Has}
 use Rattle.std.proofs.shelf.Elements.{all-has, all-has-itself}
 use Rattle.std.proofs.shelf.Lists.{getD-default}
-use Rattle.std.proofs.shelf.Tests.{and-parts, and-from, eq-eqb, eqb-true, both-ways, not-true, not-from-false, not-from-true, false≢true, or-cases, or-left, or-right}
+use Rattle.std.proofs.shelf.Tests.{and-parts, and-from, eq-eqb, eqb-true, both-ways, not-true, false≢true}
 use Rattle.terms.specs.Words.{nodeOf}
 use Rattle.lists.specs.Sides.{every, any, isVariable, holds, repeated, onceEach, bound}
 use Rattle.lists.specs.Laws.{OncePlaced, FromLeft}

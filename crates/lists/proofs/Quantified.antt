@@ -1,12 +1,12 @@
 -- The tests `every` and `any` as statements about each element and about some element.
-use mathlib.Core.Path.{_≡_, refl, sym, ap, _∙_}
-use mathlib.Core.Bool.{Bool, true, false, not, _&&_, _||_}
-use mathlib.Core.List.{List, [], _∷_, _++_}
-use Prim.Native.Nat.{ℕ, zero, suc, _<_, _≤_}
+use mathlib.Core.Path.{_≡_, refl, ap, _∙_}
+use mathlib.Core.Bool.{Bool, true, false, not, _||_}
+use mathlib.Core.List.{List, [], _∷_}
+use Prim.Native.Nat.{ℕ, zero, suc, _<_}
 use native.Mathlib.Omega.{arith}
 use lib.ListN.{length, getD}
 use Rattle.std.specs.shelf.Lists.{All, Has}
-use Rattle.std.proofs.shelf.Tests.{and-parts, and-from, or-left, or-right, both-ways, true≢false, false≢true}
+use Rattle.std.proofs.shelf.Tests.{and-parts, and-from, or-left, or-right, both-ways, false≢true}
 use Rattle.lists.specs.Sides.{every, any}
 
 pub all-if-every : {X : Type 0} (test : X → Bool) (xs : List X) → every test xs ≡ true → All (λ x. test x ≡ true) xs

@@ -1,19 +1,17 @@
 -- Forms that are read line by line are owned and rising, and forms that are so are read.
-use mathlib.Core.Path.{_≡_, refl, sym, ap, subst, _∙_}
-use mathlib.Core.Bool.{Bool, true, false, _&&_}
+use mathlib.Core.Path.{_≡_, refl, sym, ap, _∙_}
+use mathlib.Core.Bool.{true, _&&_}
 use mathlib.Core.List.{List, [], _∷_, _++_, map}
 use Prim.Native.Nat.{ℕ, _+_, _*_, _<_, _≤_}
 use native.Mathlib.Omega.{arith}
 use lib.Dec.{leb, ltb}
 use Rattle.std.specs.declared.option.Option.{Option}
-use Rattle.std.specs.declared.option.Option.the-variants.{Some, None}
 use Rattle.std.specs.shelf.Lists.{All}
 use Rattle.std.proofs.shelf.Tests.{and-parts, and-from, leb-true, ltb-true, le-leb, lt-ltb}
 use Rattle.lists.specs.declared.parts.Form.{Form}
-use Rattle.lists.specs.declared.parts.Head.{Head}
 use Rattle.lists.specs.declared.refusal.Place.{Place}
 use Rattle.lists.specs.declared.refusal.Place.the-variants as place
-use Rattle.texts.specs.Texts.{Reading, form-line}
+use Rattle.texts.specs.Texts.{Reading}
 use Rattle.lists.specs.Lines.{owned, lastLabel, formLine}
 use Rattle.lists.specs.Sides.{formWord}
 use Rattle.lists.specs.Laws.{Rising}

@@ -1,22 +1,22 @@
 -- The shape of the two sides: the tests as statements, both ways.
 use mathlib.Core.Path.{_≡_, refl, sym, ap, subst, _∙_}
-use mathlib.Core.Bool.{Bool, true, false, cond, _&&_, _||_}
-use mathlib.Core.List.{List, [], _∷_, _++_}
-use Prim.Native.Nat.{ℕ, _+_, _*_, _<_, _≤_}
+use mathlib.Core.Bool.{true, false, _&&_, _||_}
+use mathlib.Core.List.{List, [], _∷_}
+use Prim.Native.Nat.{ℕ, _+_, _<_}
 use native.Mathlib.Omega.{arith}
-use lib.Dec.{eqb, leb, ltb}
+use lib.Dec.{eqb, leb}
 use lib.ListN.{length}
 use Rattle.std.specs.declared.option.Option.{Option}
 use Rattle.std.specs.declared.option.Option.the-variants.{Some, None}
 use Rattle.std.specs.declared.result.Result.{Result}
 use Rattle.std.specs.declared.result.Result.the-variants.{Ok, Err}
 use Rattle.std.specs.Results.{isOk}
-use Rattle.std.specs.shelf.Lists.{All, Has}
-use Rattle.std.proofs.shelf.Tests.{and-parts, and-from, eqb-true, eq-eqb, leb-true, false≢true, or-cases, or-right}
+use Rattle.std.specs.shelf.Lists.{All}
+use Rattle.std.proofs.shelf.Tests.{and-parts, and-from, eqb-true, eq-eqb, leb-true, false≢true, or-right}
 use Rattle.terms.specs.declared.words.Node.{Node}
 use Rattle.terms.specs.declared.words.Node.the-variants.{Atom, Variable, Body, Head, Form}
 use Rattle.terms.specs.declared.front.Broken.{Broken}
-use Rattle.terms.specs.Words.{word, nodeOf, isFormLabel}
+use Rattle.terms.specs.Words.{word, nodeOf}
 use Rattle.terms.specs.Trees.{Tree, Trees, atom, variable, body, head, form, written, WellMade, count}
 use Rattle.terms.specs.Fronts.{wholly, isTree}
 use Rattle.terms.specs.Laws.{Whole}

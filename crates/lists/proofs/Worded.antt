@@ -1,15 +1,15 @@
 -- The words of a side as fields, and back.
 use mathlib.Core.Path.{_≡_, refl, sym, ap, _∙_}
-use mathlib.Core.Bool.{Bool, true, false, cond, _&&_}
-use mathlib.Core.List.{List, [], _∷_, _++_}
-use Prim.Native.Nat.{ℕ, suc, _+_, _*_, _/_, _%_, _<_, _≤_}
+use mathlib.Core.Bool.{true, _&&_}
+use mathlib.Core.List.{List, [], _∷_}
+use Prim.Native.Nat.{ℕ, _+_, _*_, _/_, _%_, _<_, _≤_}
 use native.Mathlib.Omega.{arith}
 use lib.Dec.{leb}
 use lib.ListN.{length}
 use Rattle.std.specs.declared.option.Option.{Option}
 use Rattle.std.specs.declared.option.Option.the-variants.{Some, None}
 use Rattle.std.specs.shelf.Lists.{All}
-use Rattle.std.proofs.shelf.Tests.{and-parts, and-from, leb-true, le-leb}
+use Rattle.std.proofs.shelf.Tests.{and-parts, leb-true, le-leb}
 use Rattle.lists.specs.Lines.{andThen, wordAt, wordsOf}
 use Rattle.lists.specs.Spelling.{wordFields}
 use Rattle.texts.proofs.Answering.{none-not-some, same-some, tested}

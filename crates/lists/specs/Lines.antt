@@ -25,6 +25,7 @@ use Rattle.lists.specs.declared.refusal.Refusal.{Refusal}
 use Rattle.lists.specs.declared.refusal.Refusal.the-variants.{LineBroken, LineMissing, LineExtra, TableDiffers, NoMemory}
 use Rattle.texts.specs.declared.text.Word.{Word}
 use Rattle.texts.specs.declared.text.Word.the-variants as word
+use Rattle.terms.specs.Words.{isLayer, word as wordWith}
 use Rattle.texts.specs.Texts.{Reading, head-line, form-line, table-line, rule-line, broken-line}
 
 abbrev pub within : ℕ → ℕ → ℕ → Bool
@@ -46,7 +47,7 @@ abbrev pub headOf : List ℕ → Option Head
 headOf [] = None
 headOf (k ∷ []) = None
 headOf (k ∷ f ∷ []) = None
-headOf (k ∷ f ∷ r ∷ []) = cond (within 1 6 k && within 1 32 f && within 1 32 r) (Some (record { layer = k; forms = f; rules = r })) None
+headOf (k ∷ f ∷ r ∷ []) = cond (isLayer k && within 1 32 f && within 1 32 r) (Some (record { layer = k; forms = f; rules = r })) None
 headOf (k ∷ f ∷ r ∷ n ∷ ns) = None
 
 abbrev pub headLine : Reading → Option Head
@@ -78,7 +79,7 @@ formLine k before r = andThen (numbersOf word.Form r) (formOf k before)
 abbrev pub tableOf : List ℕ → Option (ℕ × ℕ)
 tableOf [] = None
 tableOf (k ∷ []) = None
-tableOf (k ∷ r ∷ []) = cond (within 1 6 k && within 1 32 r) (Some (k, r)) None
+tableOf (k ∷ r ∷ []) = cond (isLayer k && within 1 32 r) (Some (k, r)) None
 tableOf (k ∷ r ∷ n ∷ ns) = None
 
 abbrev pub tableLine : Reading → Option (ℕ × ℕ)
@@ -91,7 +92,7 @@ pub record Sides : Type 0 where
 
 -- a word of two fields: a label, 0 to 255, and a payload, 0 to 16,777,215
 abbrev pub wordAt : ℕ → ℕ → Option ℕ
-wordAt l p = cond (leb l 255 && leb p 16777215) (Some (l * 16777216 + p)) None
+wordAt l p = cond (leb l 255 && leb p 16777215) (Some (wordWith l p)) None
 
 unfoldable pub wordsOf : List ℕ → Option (List ℕ)
 wordsOf [] = Some []

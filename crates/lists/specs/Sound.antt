@@ -1,14 +1,11 @@
 -- What every list keeps, as tests.
-use mathlib.Core.Bool.{Bool, true, false, not, _&&_}
+use mathlib.Core.Bool.{Bool, true, not, _&&_}
 use mathlib.Core.List.{List, [], _∷_, _++_}
 use Prim.Native.Nat.{ℕ}
 use lib.Dec.{leb, ltb}
 use Rattle.lists.specs.declared.parts.Form.{Form}
 use Rattle.lists.specs.Lines.{Sides, within, owned}
 use Rattle.lists.specs.Sides.{every, any, shaped, linear, overlapping, isFor}
-
-abbrev pub isLayer : ℕ → Bool
-isLayer k = within 1 6 k
 
 -- each label is owned by layer k and higher than the one before, and each count is at most 8
 unfoldable pub risingFrom : ℕ → ℕ → List Form → Bool

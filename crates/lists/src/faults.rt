@@ -5,7 +5,7 @@ ghost use Prim.Native.Nat.{_<_, _≤_};
 ghost use lib.ListN.{length};
 ghost use Rattle.lists.specs.Lines.{sidesOf};
 ghost use Rattle.lists.specs.Sides.{any, isFor};
-ghost use Rattle.lists.specs.Acceptance.{Listed, sideFault, overlapFault, formFault, faultIn};
+ghost use Rattle.lists.specs.Acceptance.{sideFault, overlapFault, formFault, faultIn};
 ghost use Rattle.lists.specs.Sound.{overlapsSome};
 use crate::parts::Form;
 use crate::parts::Rule;

@@ -2,8 +2,9 @@
 ghost use mathlib.Core.Path.{_≡_};
 ghost use mathlib.Core.Bool.{true};
 ghost use Rattle.std.specs.Of.Vec.{vec-items};
+ghost use Rattle.terms.specs.Words.{isLayer};
 ghost use Rattle.lists.specs.Lines.{allSides};
-ghost use Rattle.lists.specs.Sound.{isLayer, rising, allShaped, allLinear, noneOverlap, allRuled};
+ghost use Rattle.lists.specs.Sound.{rising, allShaped, allLinear, noneOverlap, allRuled};
 use crate::parts::Form;
 use crate::parts::Rule;
 

@@ -2,7 +2,7 @@
 use mathlib.Core.Path.{_≡_, refl, sym, ap, subst, _∙_}
 use mathlib.Core.Bool.{Bool, true, false}
 use mathlib.Core.List.{List, [], _∷_, _++_}
-use Prim.Native.Nat.{ℕ, zero, suc, _+_, _<_}
+use Prim.Native.Nat.{ℕ, _+_, _<_}
 use native.Mathlib.Omega.{arith}
 use lib.Dec.{lit<}
 use lib.ListN.{length, getD, drop}
@@ -10,7 +10,7 @@ use lib.Utf8.{encode}
 use Rattle.std.specs.declared.option.Option.{Option}
 use Rattle.std.specs.declared.option.Option.the-variants.{Some, None}
 use Rattle.std.specs.declared.result.Result.{Result}
-use Rattle.std.specs.Finds.{BeginsChar, peeled, Peeled, Stops}
+use Rattle.std.specs.Finds.{BeginsChar, peeled, Stops}
 use Rattle.std.proofs.shelf.Patterns.{drop-at-char}
 use Rattle.std.proofs.shelf.Elements.{all-from-getD}
 use Rattle.replay.specs.declared.command.Command.{Command}

@@ -4,7 +4,6 @@ use mathlib.Core.List.{List, [], _++_}
 use Prim.Native.Nat.{ℕ}
 use lib.Chars.{codes}
 use lib.Dec.{eqb}
-use lib.ListN.{length}
 use Rattle.std.specs.Written.{decimal}
 use Rattle.lists.specs.declared.refusal.Fault.{Fault}
 use Rattle.lists.specs.Refusals.{faultOf}

@@ -1,6 +1,5 @@
 // Words the lines of the account.
 ghost use mathlib.Core.Path.{_≡_};
-ghost use mathlib.Core.List.{_++_};
 ghost use Rattle.std.specs.declared.option.Option.the-variants.{Some};
 ghost use Rattle.lists.specs.Refusals.{faultOf};
 ghost use Rattle.replay.specs.Account.{sentenceOf, summaryText, verdictText, listText};

@@ -1,6 +1,6 @@
 // One word of a term: its label and payload, and the node that it stands for.
 ghost use mathlib.Core.Path.{_≡_};
-ghost use Prim.Native.Nat.{_+_, _*_};
+ghost use Prim.Native.Nat.{_+_};
 ghost use Rattle.terms.specs.Words.{nodeOf, arityOf, formAt, headAt};
 
 // A word is label × LABEL_UNIT + payload.

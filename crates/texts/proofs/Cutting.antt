@@ -1,18 +1,16 @@
 -- The pieces of a text whose first separator is known.
-use mathlib.Core.Path.{_≡_, refl, sym, ap, _∙_}
+use mathlib.Core.Path.{_≡_, refl, ap, _∙_}
 use mathlib.Core.Bool.{Bool, true, false}
-use mathlib.Core.List.{List, [], _∷_, _++_, map}
-use Prim.Native.Nat.{ℕ, zero, suc, _+_, _<_, _≤_}
+use mathlib.Core.List.{List, [], _∷_, _++_}
+use Prim.Native.Nat.{ℕ, zero, suc, _+_, _<_}
 use native.Mathlib.Omega.{arith}
-use native.Mathlib.Numerals.{add-one}
 use lib.Dec.{eqb}
 use lib.ListN.{length, getD, take, drop, length-append}
 use Rattle.std.proofs.shelf.Tests.{eq-eqb, ne-eqb}
 use Rattle.std.specs.declared.option.Option.the-variants.{Some}
-use Rattle.std.specs.Orderings.{When}
 use Rattle.texts.specs.declared.text.Piece.{Piece}
-use Rattle.texts.specs.Texts.{TextLine, pieces, grown, linesOf, lines, reading, readings}
-use Rattle.texts.specs.Pieces.{FirstPiece, lineSays, NextLine}
+use Rattle.texts.specs.Texts.{pieces, grown, linesOf, lines, reading, readings}
+use Rattle.texts.specs.Pieces.{FirstPiece, NextLine}
 
 pub parted : (sep b : ℕ) (bs : List ℕ) → b ≡ sep → pieces sep (b ∷ bs) ≡ [] ∷ pieces sep bs
 unfolding pieces

@@ -5,7 +5,7 @@ use Prim.Native.Nat.{ℕ}
 use native.Mathlib.Omega.{arith}
 use Rattle.std.specs.shelf.Lists.{All}
 use Rattle.std.proofs.shelf.Lists.{append-assoc}
-use Rattle.texts.specs.Texts.{Reading, head-line, form-line, table-line, rule-line, broken-line, said, pieces, linesOf, lines, reading, readings}
+use Rattle.texts.specs.Texts.{Reading, broken-line, said, pieces, linesOf, lines, reading, readings}
 use Rattle.texts.specs.Laws.{Unbroken}
 use Rattle.texts.specs.Spelling.{TextSpelled}
 use Rattle.texts.proofs.Cutting.{lines-ended, no-lines}

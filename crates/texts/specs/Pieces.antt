@@ -7,7 +7,7 @@ use Rattle.std.specs.Orderings.{When}
 use Rattle.texts.specs.declared.text.Piece.{Piece}
 use Rattle.std.specs.declared.option.Option.{Option}
 use Rattle.std.specs.declared.option.Option.the-variants.{Some, None}
-use Rattle.texts.specs.Texts.{TextLine, Reading, pieces, numbered, reading, readings, said, head-line, form-line, table-line, rule-line, broken-line}
+use Rattle.texts.specs.Texts.{Reading, pieces, numbered, reading, readings, head-line, form-line, table-line, rule-line, broken-line}
 use Rattle.texts.specs.declared.text.Line.{Line}
 use Rattle.texts.specs.declared.text.Line.the-variants as line
 use Rattle.texts.specs.declared.text.Word.{Word}

@@ -1,4 +1,4 @@
-use mathlib.Core.Path.{_≡_, sym, ap, _∙_}
+use mathlib.Core.Path.{sym, ap, _∙_}
 use Prim.Native.Nat.{_+_}
 use Rattle.lists.proofs.Faulting.{no-rule, some-rule, forms-end}
 use Rattle.lists.proofs.faults.form_fault.Needs as need

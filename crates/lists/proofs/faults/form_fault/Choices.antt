@@ -1,6 +1,6 @@
 use mathlib.Core.Path.{_≡_}
-use mathlib.Core.List.{[], map}
-use lib.ListN.{drop, take}
+use mathlib.Core.List.{map}
+use lib.ListN.{drop}
 use Rattle.lists.specs.Lines.{sidesOf}
 use Rattle.lists.specs.Acceptance.{formFault}
 use Rattle.lists.proofs.faults.form_fault.Given as given

@@ -1,6 +1,6 @@
-use mathlib.Core.Path.{_≡_, sym, ap, _∙_}
+use mathlib.Core.Path.{sym, ap, _∙_}
 use Rattle.lists.specs.Lines.{sidesOf}
-use Rattle.lists.specs.Sides.{isFor, overlapping}
+use Rattle.lists.specs.Sides.{overlapping}
 use Rattle.lists.proofs.Scanning.{any-stops, any-goes, any-end}
 use Rattle.lists.proofs.Faulting.{any-map}
 use Rattle.lists.proofs.faults.overlaps_some.Needs as need

@@ -1,5 +1,4 @@
-use mathlib.Core.Path.{_≡_, sym, ap, _∙_}
-use Rattle.std.specs.declared.option.Option.the-variants.{Some}
+use mathlib.Core.Path.{sym, ap, _∙_}
 use Prim.Native.Nat.{_+_}
 use Rattle.lists.proofs.Faulting.{bad-shape, bad-variables, good-rule, rules-end}
 use Rattle.lists.proofs.faults.side_fault.Needs as need

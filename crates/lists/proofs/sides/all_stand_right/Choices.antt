@@ -1,5 +1,5 @@
 use mathlib.Core.Path.{_≡_}
-use lib.ListN.{drop, length}
+use lib.ListN.{drop}
 use Rattle.lists.specs.Sides.{every, onRight}
 use Rattle.lists.proofs.sides.all_stand_right.Given as given
 

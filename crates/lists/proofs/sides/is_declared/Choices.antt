@@ -1,5 +1,5 @@
 use mathlib.Core.Path.{_≡_}
-use lib.ListN.{drop, length}
+use lib.ListN.{drop}
 use lib.Dec.{eqb}
 use mathlib.Core.Bool.{_&&_}
 use Rattle.lists.specs.Sides.{any, formWord}

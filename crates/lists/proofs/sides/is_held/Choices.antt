@@ -1,5 +1,5 @@
 use mathlib.Core.Path.{_≡_}
-use lib.ListN.{drop, length}
+use lib.ListN.{drop}
 use Rattle.lists.specs.Sides.{holds}
 use Rattle.lists.proofs.sides.is_held.Given as given
 

@@ -1,7 +1,7 @@
-use mathlib.Core.Path.{_≡_, refl, sym, ap, _∙_}
-use mathlib.Core.List.{List, [], map}
-use mathlib.Core.Logic.{inl, inr}
-use Prim.Native.Nat.{ℕ, suc, _+_, _-_}
+use mathlib.Core.Path.{refl, sym, ap, _∙_}
+use mathlib.Core.List.{List, map}
+use mathlib.Core.Logic.{inr}
+use Prim.Native.Nat.{_+_, _-_}
 use native.Mathlib.Nat.{sub-zero}
 use native.Mathlib.Omega.{arith}
 use lib.ListN.{length}
@@ -10,7 +10,7 @@ use Rattle.std.specs.Options.{mapped}
 use Rattle.std.proofs.shelf.Lists.{length-push, map-push}
 use Rattle.texts.specs.Texts.{readings}
 use Rattle.texts.specs.Pieces.{lineSays}
-use Rattle.lists.specs.Lines.{sidesOf, allSides, judgeRules, ruleLine}
+use Rattle.lists.specs.Lines.{sidesOf, judgeRules, ruleLine}
 use Rattle.lists.proofs.Judging.{line-missing, line-broken, line-extra, lines-end, line-read}
 use Rattle.lists.proofs.table.read_rules.Needs as need
 

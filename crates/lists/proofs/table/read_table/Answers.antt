@@ -1,5 +1,5 @@
-use mathlib.Core.Path.{_≡_, refl, sym, ap, subst, _∙_}
-use mathlib.Core.Logic.{inl, inr, ⊎-elim}
+use mathlib.Core.Path.{sym, subst, _∙_}
+use mathlib.Core.Logic.{inr, ⊎-elim}
 use Rattle.std.proofs.shelf.Tests.{ne-eqb, and-left, and-right}
 use Rattle.lists.specs.Lines.{Answers, allSides}
 use Rattle.lists.proofs.Judging.{no-table, bad-table, table-is, table-differs}

@@ -1,5 +1,4 @@
-use mathlib.Core.Path.{sym, ap, _∙_}
-use lib.ListN.{length}
+use mathlib.Core.Path.{sym, _∙_}
 use Rattle.texts.specs.Texts.{digits}
 use Rattle.std.proofs.shelf.Lists.{at-drop-all}
 use Rattle.texts.proofs.Numbering.{no-digit-at, too-large-at, digits-more-at, digits-none}

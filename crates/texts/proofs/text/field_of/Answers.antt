@@ -1,6 +1,5 @@
-use mathlib.Core.Path.{_≡_, refl, sym, ap, subst, _∙_}
+use mathlib.Core.Path.{sym, ap, subst, _∙_}
 use Rattle.std.specs.declared.option.Option.the-variants.{Some}
-use Rattle.std.specs.Options.{mapped}
 use Rattle.texts.specs.declared.text.Word.{Word}
 use Rattle.texts.specs.Pieces.{Begins, lineMeans}
 use Rattle.texts.proofs.Firsts.{short-line, is-head, is-form, is-rule, is-table, tableSaid, table-at, table-none, no-word}
