@@ -1,4 +1,7 @@
 // Times acceptance, the end finder and steps. It measures only where its standard input has the word `measure`.
+
+#![tactic(auto)]
+
 mod runs;
 mod steps;
 mod texts;

@@ -1,4 +1,7 @@
 // Runs pairs of texts through acceptance, and tells which answers differ from those that the rules give.
+
+#![tactic(auto)]
+
 mod built;
 mod case;
 mod fields;

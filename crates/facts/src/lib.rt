@@ -1,4 +1,7 @@
 // The worked examples, each a fact that follows from the definitions alone.
+
+#![tactic(auto)]
+
 ghost use Rattle.facts.specs.Examples.{ASecondPickOverlaps, ARepetitionSteps, GAndHAreAccepted, AGoExpands, ANoteDropsItsFirst, GRefuses, AStrokeExpandsByBoth};
 
 // Every worked example comes out as the rules say.

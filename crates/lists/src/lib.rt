@@ -1,4 +1,7 @@
 // Rule lists: the two texts that a list comes as, and the list that they are accepted as.
+
+#![tactic(auto)]
+
 mod accept;
 mod faults;
 mod header;

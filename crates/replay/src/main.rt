@@ -1,4 +1,7 @@
 // Runs a job: reads it from standard input, a command a line, and prints an account, a line for each command.
+
+#![tactic(auto)]
+
 mod account;
 mod command;
 mod job;

@@ -1,4 +1,7 @@
 // The two core languages: the trait of a stepper, the machine that holds a stepper's term, and the steppers themselves.
+
+#![tactic(auto)]
+
 mod accept;
 pub mod action;
 mod change;

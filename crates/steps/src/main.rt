@@ -1,4 +1,7 @@
 // Runs tables of steps and loads, worked out by hand, on both core languages, and tells which answers differ.
+
+#![tactic(auto)]
+
 mod case;
 mod loads;
 mod logic;

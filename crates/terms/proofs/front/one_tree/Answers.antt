@@ -11,18 +11,18 @@ use Rattle.terms.proofs.front.one_tree.Goals as goal
 means : (v : Bool) (ws : List ℕ) (r : Result (Unit {0}) Broken) → r ≡ wholly v ws → Whole v ws r
 means v ws r e = subst (Whole v ws) (sym e) (whole_means v ws)
 
-pub returns-in-err-end : goal.returns-in-err-end
-returns-in-err-end c =
-    let p = err_from_is_err_and c.from-residual.result c.from-residual.ensures.1 in
-    let value = p.1 ∙ ap Err p.2 ∙ sym (wholly_broken _ _ _ (sym c.in-err-end.ensures.value)) in
+pub returns-in_err-end : goal.returns-in_err-end
+returns-in_err-end c =
+    let p = err_from_is_err_and c.from_residual.result c.from_residual.ensures.1 in
+    let value = p.1 ∙ ap Err p.2 ∙ sym (wholly_broken _ _ _ (sym c.in_err-end.ensures.value)) in
     record { value = value; law = means _ _ _ value }
 
 pub returns-then-end-words : goal.returns-then-end-words
 returns-then-end-words c =
-    let value = sym (wholly_all _ _ _ (sym c.in-ok-end.ensures.value) c.if-end-words.true) in
+    let value = sym (wholly_all _ _ _ (sym c.in_ok-end.ensures.value) c.if-end-words.true) in
     record { value = value; law = means _ _ _ value }
 
 pub returns-else-end-words : goal.returns-else-end-words
 returns-else-end-words c =
-    let value = sym (wholly_part _ _ _ (sym c.in-ok-end.ensures.value) c.if-end-words.false) in
+    let value = sym (wholly_part _ _ _ (sym c.in_ok-end.ensures.value) c.if-end-words.false) in
     record { value = value; law = means _ _ _ value }

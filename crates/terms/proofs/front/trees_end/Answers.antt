@@ -19,9 +19,9 @@ returns-then-wanted-eq0 c =
     let value = none_wanted _ _ _ _ _ c.if-wanted-eq0.true c.loop-i.invariant.0 in
     record { value = value; law = ends_if_one _ _ _ _ value }
 
-pub returns-in-default : goal.returns-in-default
-returns-in-default c =
-    let value = word_broken _ _ _ _ c.loop-i.wanted (c.loop-i.wanted - 1) (omega arith) c.loop-i-test.true (sym c.in-default.ensures) c.loop-i.invariant.0 in
+pub returns-in_default : goal.returns-in_default
+returns-in_default c =
+    let value = word_broken _ _ _ _ c.loop-i.wanted (c.loop-i.wanted - 1) (omega arith) c.loop-i-test.true (sym c.in_default.ensures) c.loop-i.invariant.0 in
     record { value = value; law = ends_if_one _ _ _ _ value }
 
 pub loop-i-preserved : goal.loop-i-preserved

@@ -10,17 +10,17 @@ loop-value-init c = ap (λ l. resumed l (numbers (pieces 44 c.args.fields.now)))
 pub loop-value-smaller : goal.loop-value-smaller
 loop-value-smaller c = rest_shorter 44 _ c.cut-field.result c.cut-field.ensures c.if-not-field.false
 
-pub returns-in-default : goal.returns-in-default
-returns-in-default c = sym (bad_field _ _ c.cut-field.result c.cut-field.ensures (sym c.in-default.ensures)) ∙ c.loop-value.invariant
+pub returns-in_default : goal.returns-in_default
+returns-in_default c = sym (bad_field _ _ c.cut-field.result c.cut-field.ensures (sym c.in_default.ensures)) ∙ c.loop-value.invariant
 
 pub returns-then-not-field : goal.returns-then-not-field
 returns-then-not-field c =
     let last = last_field _ _ c.cut-field.result c.cut-field.ensures _ c.if-not-field.true (sym c.in-Some.ensures) in
-    let all = c.in-ok-push.ensures.items in
+    let all = c.in_ok-push.ensures.items in
     ap (λ (l : List ℕ). Some l) all ∙ sym last ∙ c.loop-value.invariant
 
 pub loop-value-preserved : goal.loop-value-preserved
 loop-value-preserved c =
-    ap (λ l. resumed l (numbers (pieces 44 c.cut-field.result.rest.now))) c.in-ok-push.ensures.items
+    ap (λ l. resumed l (numbers (pieces 44 c.cut-field.result.rest.now))) c.in_ok-push.ensures.items
     ∙ sym (next_field _ _ c.cut-field.result c.cut-field.ensures _ c.if-not-field.false (sym c.in-Some.ensures))
     ∙ c.loop-value.invariant
