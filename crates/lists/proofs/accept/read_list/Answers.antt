@@ -9,41 +9,41 @@ use Rattle.lists.proofs.Accepting.{too_long, by_header, by_table, same-fault, he
 use Rattle.lists.proofs.Faultless.{no_fault}
 use Rattle.lists.proofs.accept.read_list.Goals as goal
 
-pub returns-then-header-gt-MOST-BYTES : goal.returns-then-header-gt-MOST-BYTES
-returns-then-header-gt-MOST-BYTES c =
-    inr (too_long _ _ (⊎_elim (λ l. and_left _ _ (lt-leb _ 16384 l)) (λ p. and_right _ _ (lt-leb _ 16384 p.1)) c.then-header-gt-MOST-BYTES.either))
+pub returns-then-header-gt-MOST_BYTES : goal.returns-then-header-gt-MOST_BYTES
+returns-then-header-gt-MOST_BYTES c =
+    inr (too_long _ _ (⊎_elim (λ l. and_left _ _ (lt-leb _ 16384 l)) (λ p. and_right _ _ (lt-leb _ 16384 p.1)) c.then-header-gt-MOST_BYTES.either))
 
-pub returns-in-err-head : goal.returns-in-err-head
-returns-in-err-head c =
-    let short = and_from _ _ (le-leb _ 16384 c.if-header-gt-MOST-BYTES.false) (le-leb _ 16384 c.if-table-gt-MOST-BYTES.false) in
-    let p = err_from_is_err_and c.from-residual.result c.from-residual.ensures.1 in
-    passed_on listed_in _ _ _ _ p.1 p.2 (⊎_elim inl (λ e. inr (by_header _ _ short ∙ ap (with_header c.args.table.now) e)) c.in-err-head.ensures)
+pub returns-in_err-head : goal.returns-in_err-head
+returns-in_err-head c =
+    let short = and_from _ _ (le-leb _ 16384 c.if-header-gt-MOST_BYTES.false) (le-leb _ 16384 c.if-table-gt-MOST_BYTES.false) in
+    let p = err_from_is_err_and c.from_residual.result c.from_residual.ensures.1 in
+    passed_on listed_in _ _ _ _ p.1 p.2 (⊎_elim inl (λ e. inr (by_header _ _ short ∙ ap (with_header c.args.table.now) e)) c.in_err-head.ensures)
 
-pub returns-in-err-rules : goal.returns-in-err-rules
-returns-in-err-rules c =
-    let short = and_from _ _ (le-leb _ 16384 c.if-header-gt-MOST-BYTES.false) (le-leb _ 16384 c.if-table-gt-MOST-BYTES.false) in
-    let head = by_header _ _ short ∙ ap (with_header c.args.table.now) c.in-ok-head.ensures in
-    let p = err_from_is_err_and c.from-residual-in-err-rules.result c.from-residual-in-err-rules.ensures.1 in
-    passed_on listed_in _ _ _ _ p.1 p.2 (⊎_elim inl (λ e. inr (head ∙ ap (with_table (declared_by c.in-ok-head.field-0)) e)) c.in-err-rules.ensures)
+pub returns-in_err-rules : goal.returns-in_err-rules
+returns-in_err-rules c =
+    let short = and_from _ _ (le-leb _ 16384 c.if-header-gt-MOST_BYTES.false) (le-leb _ 16384 c.if-table-gt-MOST_BYTES.false) in
+    let head = by_header _ _ short ∙ ap (with_header c.args.table.now) c.in_ok-head.ensures in
+    let p = err_from_is_err_and c.from_residual-in_err-rules.result c.from_residual-in_err-rules.ensures.1 in
+    passed_on listed_in _ _ _ _ p.1 p.2 (⊎_elim inl (λ e. inr (head ∙ ap (with_table (declared_by c.in_ok-head.field-0)) e)) c.in_err-rules.ensures)
 
-pub fault-in-requires : goal.fault-in-requires
-fault-in-requires c =
-    few_parts _ _ _ _ _ _ c.in-ok-head.ensures c.in-ok-rules.ensures c.deref.ensures.value c.deref-2.ensures.value
+pub fault_in-requires : goal.fault_in-requires
+fault_in-requires c =
+    few_parts _ _ _ _ _ _ c.in_ok-head.ensures c.in_ok-rules.ensures c.deref.ensures.value c.deref-2.ensures.value
 
 pub returns-in-Some : goal.returns-in-Some
 returns-in-Some c =
-    let short = and_from _ _ (le-leb _ 16384 c.if-header-gt-MOST-BYTES.false) (le-leb _ 16384 c.if-table-gt-MOST-BYTES.false) in
-    let fault = same-fault _ _ _ _ _ _ c.deref.ensures.value c.deref-2.ensures.value (sym c.in-Some.is ∙ c.fault-in.ensures) in
-    inr (by_table _ _ _ _ short c.in-ok-head.ensures c.in-ok-rules.ensures ∙ ap (unless_fault _) fault)
+    let short = and_from _ _ (le-leb _ 16384 c.if-header-gt-MOST_BYTES.false) (le-leb _ 16384 c.if-table-gt-MOST_BYTES.false) in
+    let fault = same-fault _ _ _ _ _ _ c.deref.ensures.value c.deref-2.ensures.value (sym c.in-Some.is ∙ c.fault_in.ensures) in
+    inr (by_table _ _ _ _ short c.in_ok-head.ensures c.in_ok-rules.ensures ∙ ap (unless_fault _) fault)
 
-pub invariant-of-result : goal.invariant-of-result
-invariant-of-result c =
-    let keeps = header_keeps _ _ c.in-ok-head.ensures in
-    let clean = no_fault _ (same-fault _ _ _ _ _ _ c.deref.ensures.value c.deref-2.ensures.value (sym c.in-None.is ∙ c.fault-in.ensures)) in
-    (keeps.layer, (keeps.rising_forms, (clean.shaped, (clean.linear, (clean.apart, (clean.ruled, tt))))))
+pub invariant_of-result : goal.invariant_of-result
+invariant_of-result c =
+    let keeps = header_keeps _ _ c.in_ok-head.ensures in
+    let clean = no_fault _ (same-fault _ _ _ _ _ _ c.deref.ensures.value c.deref-2.ensures.value (sym c.in-None.is ∙ c.fault_in.ensures)) in
+    record { layered = keeps.layer; rising = keeps.rising_forms; shaped = clean.shaped; linear = clean.linear; apart = clean.apart; ruled = clean.ruled }
 
 pub returns-in-None : goal.returns-in-None
 returns-in-None c =
-    let short = and_from _ _ (le-leb _ 16384 c.if-header-gt-MOST-BYTES.false) (le-leb _ 16384 c.if-table-gt-MOST-BYTES.false) in
-    let fault = same-fault _ _ _ _ _ _ c.deref.ensures.value c.deref-2.ensures.value (sym c.in-None.is ∙ c.fault-in.ensures) in
-    by_table _ _ _ _ short c.in-ok-head.ensures c.in-ok-rules.ensures ∙ ap (unless_fault _) fault
+    let short = and_from _ _ (le-leb _ 16384 c.if-header-gt-MOST_BYTES.false) (le-leb _ 16384 c.if-table-gt-MOST_BYTES.false) in
+    let fault = same-fault _ _ _ _ _ _ c.deref.ensures.value c.deref-2.ensures.value (sym c.in-None.is ∙ c.fault_in.ensures) in
+    by_table _ _ _ _ short c.in_ok-head.ensures c.in_ok-rules.ensures ∙ ap (unless_fault _) fault

@@ -6,5 +6,5 @@ use Rattle.lists.proofs.faults.fault_in.Goals as goal
 pub returns : goal.returns
 unfolding fault_in
 returns c =
-    let first = c.or.ensures ∙ (λ i. option_or (c.side-fault.ensures i) (c.overlap-fault.ensures i)) in
-    c.or-2.ensures ∙ (λ i. option_or (first i) (c.form-fault.ensures i))
+    let first = c.or.ensures ∙ (λ i. option_or (c.side_fault.ensures i) (c.overlap_fault.ensures i)) in
+    c.or-2.ensures ∙ (λ i. option_or (first i) (c.form_fault.ensures i))

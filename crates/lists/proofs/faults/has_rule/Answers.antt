@@ -8,14 +8,14 @@ use Rattle.lists.proofs.faults.has_rule.Goals as goal
 pub loop-rule-init : goal.loop-rule-init
 loop-rule-init c = any-map sides_of _ _
 
-pub returns-then-is-for : goal.returns-then-is-for
-returns-then-is-for c =
-    let here = ap (λ x. is_for c.args.form (sides_of x)) (sym c.rule-item.is) ∙ sym c.if-is-for.ensures in
+pub returns-then-is_for : goal.returns-then-is_for
+returns-then-is_for c =
+    let here = ap (λ x. is_for c.args.form (sides_of x)) (sym c.rule-item.is) ∙ sym c.if-is_for.ensures in
     sym (any_stops _ _ _ _ c.loop-rule-test.true here) ∙ c.loop-rule.invariant
 
 pub loop-rule-preserved : goal.loop-rule-preserved
 loop-rule-preserved c =
-    let here = ap (λ x. is_for c.args.form (sides_of x)) (sym c.rule-item.is) ∙ sym c.if-is-for.ensures in
+    let here = ap (λ x. is_for c.args.form (sides_of x)) (sym c.rule-item.is) ∙ sym c.if-is_for.ensures in
     any_goes _ _ _ _ c.loop-rule-test.true here ∙ c.loop-rule.invariant
 
 pub returns : goal.returns

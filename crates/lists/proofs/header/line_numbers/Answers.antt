@@ -5,8 +5,8 @@ use Rattle.lists.proofs.header.line_numbers.Goals as goal
 
 pub returns-in-Some : goal.returns-in-Some
 returns-in-Some c =
-    let has = line-has _ _ _ _ c.first-field.ensures c.in-Some.ensures in
-    IfOk-weaker c.read-numbers.result _ _ (λ v e. e ∙ sym has) c.read-numbers.ensures
+    let has = line-has _ _ _ _ c.first_field.ensures c.in-Some.ensures in
+    IfOk-weaker c.read_numbers.result _ _ (λ v e. e ∙ sym has) c.read_numbers.ensures
 
 pub returns-in-None : goal.returns-in-None
-returns-in-None c = sym (line-has _ _ _ _ c.first-field.ensures c.in-None.ensures)
+returns-in-None c = sym (line-has _ _ _ _ c.first_field.ensures c.in-None.ensures)

@@ -13,27 +13,27 @@ loop-i-init c =
     let items = c.new-forms.ensures.items in
     (ap length items, ap last_label items, simp (items, sub-zero))
 
-pub returns-in-default : goal.returns-in-default
-returns-in-default c =
-    inr (sym c.loop-i.invariant.2 ∙ line_missing _ _ _ _ c.loop-i.invariant.0 _ _ (omega arith) c.in-default.ensures)
+pub returns-in_default : goal.returns-in_default
+returns-in_default c =
+    inr (sym c.loop-i.invariant.2 ∙ line_missing _ _ _ _ c.loop-i.invariant.0 _ _ (omega arith) c.in_default.ensures)
 
-pub returns-in-default-2 : goal.returns-in-default-2
-returns-in-default-2 c =
-    let said = ap (λ b. form_of_line c.args.head.layer b (line_says c.in-Some.line)) c.loop-i.invariant.1 ∙ sym c.in-ok-form.ensures ∙ c.in-default-2.is in
+pub returns-in_default-2 : goal.returns-in_default-2
+returns-in_default-2 c =
+    let said = ap (λ b. form_of_line c.args.head.layer b (line_says c.in-Some.line)) c.loop-i.invariant.1 ∙ sym c.in_ok-form.ensures ∙ c.in_default-2.is in
     inr (sym c.loop-i.invariant.2 ∙ line_broken _ _ _ _ c.loop-i.invariant.0 _ _ _ _ (omega arith) c.in-Some.ensures.0 said)
 
 pub loop-i-preserved : goal.loop-i-preserved
 loop-i-preserved c =
-    let items = c.in-ok-push.ensures.items in
-    let said = ap (λ b. form_of_line c.args.head.layer b (line_says c.in-Some.line)) c.loop-i.invariant.1 ∙ sym c.in-ok-form.ensures ∙ c.in-Some-2.is in (
+    let items = c.in_ok-push.ensures.items in
+    let said = ap (λ b. form_of_line c.args.head.layer b (line_says c.in-Some.line)) c.loop-i.invariant.1 ∙ sym c.in_ok-form.ensures ∙ c.in-Some-2.is in (
       ap length items ∙ length_push _ _ ∙ ap (λ n. n + 1) c.loop-i.invariant.0,
       ap last_label items ∙ last_label_lem (vec_items c.loop-i.forms) c.in-Some-2.form,
       ap (λ l. judge_forms c.args.head l (c.args.head.forms - (c.loop-i.i + 1)) (readings c.in-Some.line.rest.now)) items
           ∙ sym (line_read _ _ _ _ c.loop-i.invariant.0 _ _ _ _ _ _ (omega arith) c.in-Some.ensures.0 said) ∙ c.loop-i.invariant.2,
     )
 
-pub returns-in-Some-next-line : goal.returns-in-Some-next-line
-returns-in-Some-next-line c = inr (sym c.loop-i.invariant.2 ∙ line_extra _ _ _ _ (omega arith) _ _ _ _ (omega arith) c.in-Some-next-line.ensures.0)
+pub returns-in-Some-next_line : goal.returns-in-Some-next_line
+returns-in-Some-next_line c = inr (sym c.loop-i.invariant.2 ∙ line_extra _ _ _ _ (omega arith) _ _ _ _ (omega arith) c.in-Some-next_line.ensures.0)
 
 pub returns-in-None : goal.returns-in-None
 returns-in-None c = sym c.loop-i.invariant.2 ∙ lines_end _ _ _ _ refl _ _ (omega arith) c.in-None.ensures

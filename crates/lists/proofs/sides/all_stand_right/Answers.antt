@@ -2,11 +2,11 @@ use Rattle.std.proofs.Common.{sym, ◌∙◌}
 use Rattle.lists.proofs.Scanning.{every_stops, every_goes, every_end}
 use Rattle.lists.proofs.sides.all_stand_right.Goals as goal
 
-pub returns-then-not-stands-right : goal.returns-then-not-stands-right
-returns-then-not-stands-right c = sym (every_stops _ _ _ _ c.loop-word-test.true (sym c.if-not-stands-right.ensures)) ∙ c.loop-word.invariant
+pub returns-then-not-stands_right : goal.returns-then-not-stands_right
+returns-then-not-stands_right c = sym (every_stops _ _ _ _ c.loop-word-test.true (sym c.if-not-stands_right.ensures)) ∙ c.loop-word.invariant
 
 pub loop-word-preserved : goal.loop-word-preserved
-loop-word-preserved c = every_goes _ _ _ _ c.loop-word-test.true (sym c.if-not-stands-right.ensures) ∙ c.loop-word.invariant
+loop-word-preserved c = every_goes _ _ _ _ c.loop-word-test.true (sym c.if-not-stands_right.ensures) ∙ c.loop-word.invariant
 
 pub returns : goal.returns
 returns c = sym (every_end _ _ _ c.loop-word-test.false) ∙ c.loop-word.invariant

@@ -13,26 +13,26 @@ loop-k-init c =
     let items = ap (map sides_of) c.new-rules.ensures.items in
     (ap length items, simp (items, sub-zero))
 
-pub returns-in-default : goal.returns-in-default
-returns-in-default c =
-    inr (sym c.loop-k.invariant.1 ∙ line_missing _ _ _ _ c.loop-k.invariant.0 _ _ (omega arith) c.in-default.ensures)
+pub returns-in_default : goal.returns-in_default
+returns-in_default c =
+    inr (sym c.loop-k.invariant.1 ∙ line_missing _ _ _ _ c.loop-k.invariant.0 _ _ (omega arith) c.in_default.ensures)
 
-pub returns-in-default-2 : goal.returns-in-default-2
-returns-in-default-2 c =
-    let said = ap (λ n. rule_of_line n (line_says c.in-Some.line)) c.loop-k.invariant.0 ∙ sym c.in-ok-rule.ensures ∙ ap (option_map sides_of) c.in-default-2.is in
+pub returns-in_default-2 : goal.returns-in_default-2
+returns-in_default-2 c =
+    let said = ap (λ n. rule_of_line n (line_says c.in-Some.line)) c.loop-k.invariant.0 ∙ sym c.in_ok-rule.ensures ∙ ap (option_map sides_of) c.in_default-2.is in
     inr (sym c.loop-k.invariant.1 ∙ line_broken _ _ _ _ c.loop-k.invariant.0 _ _ _ _ (omega arith) c.in-Some.ensures.0 said)
 
 pub loop-k-preserved : goal.loop-k-preserved
 loop-k-preserved c =
-    let items = ap (map sides_of) c.in-ok-push.ensures.items ∙ map_push sides_of (vec_items c.loop-k.rules) c.in-Some-2.rule in
-    let said = ap (λ n. rule_of_line n (line_says c.in-Some.line)) c.loop-k.invariant.0 ∙ sym c.in-ok-rule.ensures ∙ ap (option_map sides_of) c.in-Some-2.is in (
+    let items = ap (map sides_of) c.in_ok-push.ensures.items ∙ map_push sides_of (vec_items c.loop-k.rules) c.in-Some-2.rule in
+    let said = ap (λ n. rule_of_line n (line_says c.in-Some.line)) c.loop-k.invariant.0 ∙ sym c.in_ok-rule.ensures ∙ ap (option_map sides_of) c.in-Some-2.is in (
       ap length items ∙ length_push _ _ ∙ ap (λ n. n + 1) c.loop-k.invariant.0,
       ap (λ l. judge_rules l (c.args.count - (c.loop-k.k + 1)) (readings c.in-Some.line.rest.now)) items
           ∙ sym (line_read _ _ _ _ c.loop-k.invariant.0 _ _ _ _ _ _ (omega arith) c.in-Some.ensures.0 said) ∙ c.loop-k.invariant.1,
     )
 
-pub returns-in-Some-next-line : goal.returns-in-Some-next-line
-returns-in-Some-next-line c = inr (sym c.loop-k.invariant.1 ∙ line_extra _ _ _ _ (omega arith) _ _ _ _ (omega arith) c.in-Some-next-line.ensures.0)
+pub returns-in-Some-next_line : goal.returns-in-Some-next_line
+returns-in-Some-next_line c = inr (sym c.loop-k.invariant.1 ∙ line_extra _ _ _ _ (omega arith) _ _ _ _ (omega arith) c.in-Some-next_line.ensures.0)
 
 pub returns-in-None : goal.returns-in-None
 returns-in-None c = sym c.loop-k.invariant.1 ∙ lines_end _ _ _ _ refl _ _ (omega arith) c.in-None.ensures

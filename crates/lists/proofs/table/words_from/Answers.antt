@@ -12,15 +12,15 @@ loop-rest-init c = ap (λ l. resumed l (words_of c.args.fields.now)) c.new-words
 pub loop-rest-preserved : goal.loop-rest-preserved
 loop-rest-preserved c =
     let next = next_word (vec_items c.loop-rest.words) _ _ c.loop-rest-test.true (sym c.in-Some.ensures) in
-    simp take_rest (ap (λ l. resumed l (words_of (drop 2 c.loop-rest.rest.now))) c.in-ok-push.ensures.items ∙ sym next ∙ c.loop-rest.invariant)
+    simp take_rest (ap (λ l. resumed l (words_of (drop 2 c.loop-rest.rest.now))) c.in_ok-push.ensures.items ∙ sym next ∙ c.loop-rest.invariant)
 
-pub returns-in-default : goal.returns-in-default
-returns-in-default c = sym (bad_word (vec_items c.loop-rest.words) _ c.loop-rest-test.true (sym c.in-default.ensures)) ∙ c.loop-rest.invariant
+pub returns-in_default : goal.returns-in_default
+returns-in_default c = sym (bad_word (vec_items c.loop-rest.words) _ c.loop-rest-test.true (sym c.in_default.ensures)) ∙ c.loop-rest.invariant
 
-pub returns-then-is-empty : goal.returns-then-is-empty
-returns-then-is-empty c = sym (words_end _ _ (eqb-true _ 0 (sym c.if-is-empty.ensures))) ∙ c.loop-rest.invariant
+pub returns-then-is_empty : goal.returns-then-is_empty
+returns-then-is_empty c = sym (words_end _ _ (eqb-true _ 0 (sym c.if-is_empty.ensures))) ∙ c.loop-rest.invariant
 
-pub returns-else-is-empty : goal.returns-else-is-empty
-returns-else-is-empty c =
-    let some = eqb-false (length c.loop-rest.rest.now) 0 (sym c.if-is-empty.ensures) in
+pub returns-else-is_empty : goal.returns-else-is_empty
+returns-else-is_empty c =
+    let some = eqb-false (length c.loop-rest.rest.now) 0 (sym c.if-is_empty.ensures) in
     sym (word_half (vec_items c.loop-rest.words) c.loop-rest.rest.now (omega arith)) ∙ c.loop-rest.invariant

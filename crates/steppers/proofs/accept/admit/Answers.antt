@@ -5,22 +5,22 @@ use Rattle.steppers.specs.Written.{Admitted}
 use Rattle.steppers.proofs.Admissions.{too_long, no_term, lacks, lacks-none}
 use Rattle.steppers.proofs.accept.admit.Goals as goal
 
-pub returns-then-words-most-words : goal.returns-then-words-most-words
-returns-then-words-most-words g c =
+pub returns-then-words-most_words : goal.returns-then-words-most_words
+returns-then-words-most_words g c =
     let table = g.S.Stepper.table in
     let words = c.args.words.now in
-    subst (λ n. Admitted table words (Err (TooLong 0 n))) (sym c.most-words-then-words-most-words.ensures) (too_long table words (omega (arith, c.most-words.ensures, c.if-words-most-words.true)))
+    subst (λ n. Admitted table words (Err (TooLong 0 n))) (sym c.most_words-then-words-most_words.ensures) (too_long table words (omega (arith, c.most_words.ensures, c.if-words-most_words.true)))
 
 pub returns-in-Err : goal.returns-in-Err
 returns-in-Err g c =
-    no_term g.S.Stepper.table c.args.words.now (omega (arith, c.most-words.ensures, c.if-words-most-words.false)) c.in-Err.broken (sym c.in-Err.ensures.value)
+    no_term g.S.Stepper.table c.args.words.now (omega (arith, c.most_words.ensures, c.if-words-most_words.false)) c.in-Err.broken (sym c.in-Err.ensures.value)
 
 pub returns-in-Some : goal.returns-in-Some
 returns-in-Some g c =
-    let whole = c.in-default.ensures in
-    lacks g.S.Stepper.table c.args.words.now (omega (arith, c.most-words.ensures, c.if-words-most-words.false)) c.in-default.field-0 (sym whole.value) whole.law.0 whole.law.1 whole.law.2 c.in-Some.place c.in-Some.ensures
+    let whole = c.in_default.ensures in
+    lacks g.S.Stepper.table c.args.words.now (omega (arith, c.most_words.ensures, c.if-words-most_words.false)) c.in_default.field-0 (sym whole.value) whole.law.0 whole.law.1 whole.law.2 c.in-Some.place c.in-Some.ensures
 
 pub returns-in-None : goal.returns-in-None
 returns-in-None g c =
-    let whole = c.in-default.ensures in
-    lacks-none g.S.Stepper.table c.args.words.now (omega (arith, c.most-words.ensures, c.if-words-most-words.false)) c.in-default.field-0 (sym whole.value) whole.law.0 whole.law.1 whole.law.2 c.in-None.ensures
+    let whole = c.in_default.ensures in
+    lacks-none g.S.Stepper.table c.args.words.now (omega (arith, c.most_words.ensures, c.if-words-most_words.false)) c.in_default.field-0 (sym whole.value) whole.law.0 whole.law.1 whole.law.2 c.in-None.ensures

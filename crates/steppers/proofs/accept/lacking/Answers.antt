@@ -10,25 +10,25 @@ use Rattle.steppers.proofs.accept.lacking.Goals as goal
 pub loop-at-init : goal.loop-at-init
 loop-at-init g c = (omega arith, searched_none g.S.Stepper.table.has c.args.words.now)
 
-pub returns-in-default : goal.returns-in-default
-returns-in-default g c =
-    searched_found g.S.Stepper.table.has c.args.words.now c.loop-at.at c.loop-at.invariant.1 c.loop-at-test.true (sym c.in-default.ensures)
+pub returns-in_default : goal.returns-in_default
+returns-in_default g c =
+    searched_found g.S.Stepper.table.has c.args.words.now c.loop-at.at c.loop-at.invariant.1 c.loop-at-test.true (sym c.in_default.ensures)
 
-pub returns-in-default-skip : goal.returns-in-default-skip
-returns-in-default-skip g c =
+pub returns-in_default-skip : goal.returns-in_default-skip
+returns-in_default-skip g c =
     let rest = take_rest c.args.words.now (c.loop-at.at + 1) in
-    searched_broken g.S.Stepper.table.has c.args.words.now c.loop-at.at c.loop-at.invariant.1 c.loop-at-test.true c.in-Some.dropped (sym c.in-Some.ensures) c.in-default-skip.field-0 (ap (ending false c.in-Some.dropped) (sym rest) ∙ sym c.in-default-skip.ensures)
+    searched_broken g.S.Stepper.table.has c.args.words.now c.loop-at.at c.loop-at.invariant.1 c.loop-at-test.true c.in-Some.dropped (sym c.in-Some.ensures) c.in_default-skip.field-0 (ap (ending false c.in-Some.dropped) (sym rest) ∙ sym c.in_default-skip.ensures)
 
 -- behind the node the terms that are passed over end, within the words
 skips : (g : given.Over) (c : goal.In-Ok g) → (ending false c.in-Some.dropped (drop (c.loop-at.at + 1) c.args.words.now) ≡ Ok c.in-Ok.size) × (c.loop-at.at + (1 + c.in-Ok.size) ≤ length c.args.words.now)
 skips g c =
     skip_within c.args.words.now c.loop-at.at c.in-Some.dropped c.in-Ok.size c.loop-at-test.true c.in-Ok.ensures
 
-pub overflow-add-at-in-loop-at : goal.overflow-add-at-in-loop-at
-overflow-add-at-in-loop-at g c = omega (arith, (skips g c).1)
+pub overflow_add-at-in-loop-at : goal.overflow_add-at-in-loop-at
+overflow_add-at-in-loop-at g c = omega (arith, (skips g c).1)
 
-pub overflow-add-at-in-loop-at-2 : goal.overflow-add-at-in-loop-at-2
-overflow-add-at-in-loop-at-2 g c = omega (arith, (skips g c).1)
+pub overflow_add-at-in-loop-at-2 : goal.overflow_add-at-in-loop-at-2
+overflow_add-at-in-loop-at-2 g c = omega (arith, (skips g c).1)
 
 pub loop-at-preserved : goal.loop-at-preserved
 loop-at-preserved g c =

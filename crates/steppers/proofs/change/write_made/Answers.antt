@@ -3,8 +3,8 @@ use Rattle.steppers.specs.Written.{child_words, round_words, made_words, Wordabl
 use Rattle.steppers.proofs.Making.{round_size}
 use Rattle.steppers.proofs.change.write_made.Goals as goal
 
-pub write-round-requires : goal.write-round-requires
-write-round-requires c =
+pub write_round-requires : goal.write_round-requires
+write_round-requires c =
     let r = c.in-Round in
     let node = c.args.node.now in
     let numbers = subst Wordable r.is c.requires.wordable in
@@ -21,7 +21,7 @@ returns-in-Round c =
     let made = ap (λ m. length (made_words node m)) r.is in
     let child = ap length c.child-in-Round.ensures.value in
     record {
-      items = c.write-round.ensures.items ∙ ap (λ ws. vec_items c.args.out.now ++ round_words r.first r.again r.count ws) c.child-in-Round.ensures.value ∙ ap (λ m. vec_items c.args.out.now ++ made_words node m) (sym r.is);
-      len = omega (arith, size, made, child, c.write-round.ensures.len);
-      room = c.write-round.ensures.room;
+      items = c.write_round.ensures.items ∙ ap (λ ws. vec_items c.args.out.now ++ round_words r.first r.again r.count ws) c.child-in-Round.ensures.value ∙ ap (λ m. vec_items c.args.out.now ++ made_words node m) (sym r.is);
+      len = omega (arith, size, made, child, c.write_round.ensures.len);
+      room = c.write_round.ensures.room;
     }

@@ -24,30 +24,30 @@ module _ (words : List ℕ) (n : ℕ) where
 pub loop-i-init : goal.loop-i-init
 loop-i-init g c = (omega arith, spotted_none g.S.Stepper.table c.args.words.now c.args.inputs)
 
-pub returns-in-default : goal.returns-in-default
-returns-in-default g c =
+pub returns-in_default : goal.returns-in_default
+returns-in_default g c =
     let table = g.S.Stepper.table in
     let words = c.args.words.now in
     let image = c.args.inputs in
     let outer = c.loop-i.outer in
     let n = c.inside.result in
-    let a = c.act-at-action.result in
+    let a = c.act_at-action.result in
     let inside = inside_rest words outer n c.inside.ensures in
-    let act = acts_rest words (outer + n) table image a c.act-at-action.ensures in
-    (omega arith, within_rest words outer n c.loop-i.invariant.0 inside.0, spotted_here table words image outer c.loop-i.invariant.1 n inside a act c.in-default.not-Child)
+    let act = acts_rest words (outer + n) table image a c.act_at-action.ensures in
+    (omega arith, within_rest words outer n c.loop-i.invariant.0 inside.0, spotted_here table words image outer c.loop-i.invariant.1 n inside a act c.in_default.not-Child)
 
-pub returns-in-default-child-start : goal.returns-in-default-child-start
-returns-in-default-child-start g c =
+pub returns-in_default-child_start : goal.returns-in_default-child_start
+returns-in_default-child_start g c =
     let table = g.S.Stepper.table in
     let words = c.args.words.now in
     let image = c.args.inputs in
     let outer = c.loop-i.outer in
     let n = c.inside.result in
-    let a = c.act-at-action.result in
+    let a = c.act_at-action.result in
     let i = c.in-Child.i in
     let inside = inside_rest words outer n c.inside.ensures in
-    let act = acts_rest words (outer + n) table image a c.act-at-action.ensures in
-    let start = starts_rest words (outer + n) i None c.in-default-child-start.ensures in
+    let act = acts_rest words (outer + n) table image a c.act_at-action.ensures in
+    let start = starts_rest words (outer + n) i None c.in_default-child_start.ensures in
     (omega arith, within_rest words outer n c.loop-i.invariant.0 inside.0, spotted_no_child table words image outer c.loop-i.invariant.1 n inside a act i c.in-Child.is start)
 
 pub loop-i-preserved : goal.loop-i-preserved
@@ -57,10 +57,10 @@ loop-i-preserved g c =
     let image = c.args.inputs in
     let outer = c.loop-i.outer in
     let n = c.inside.result in
-    let a = c.act-at-action.result in
+    let a = c.act_at-action.result in
     let i = c.in-Child.i in
     let inside = inside_rest words outer n c.inside.ensures in
-    let act = acts_rest words (outer + n) table image a c.act-at-action.ensures in
+    let act = acts_rest words (outer + n) table image a c.act_at-action.ensures in
     let start = starts_rest words (outer + n) i (Some c.in-Some.start) c.in-Some.ensures in
     let node = within_rest words outer n c.loop-i.invariant.0 inside.0 in
     (within_rest words (outer + n) c.in-Some.start node start.1, spotted_child table words image outer c.loop-i.invariant.1 n inside a act i c.in-Child.is c.in-Some.start start)

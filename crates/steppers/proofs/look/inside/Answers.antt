@@ -9,24 +9,24 @@ use Rattle.steppers.proofs.look.inside.Goals as goal
 pub loop-at-init : goal.loop-at-init
 loop-at-init c = (omega arith, passed_none _)
 
-pub returns-in-default : goal.returns-in-default
-returns-in-default c =
-    (c.loop-at.invariant.0, passed_all _ _ c.loop-at.invariant.1 c.loop-at-test.true (sym c.in-default.ensures))
+pub returns-in_default : goal.returns-in_default
+returns-in_default c =
+    (c.loop-at.invariant.0, passed_all _ _ c.loop-at.invariant.1 c.loop-at-test.true (sym c.in_default.ensures))
 
-pub returns-in-default-skip : goal.returns-in-default-skip
-returns-in-default-skip c =
+pub returns-in_default-skip : goal.returns-in_default-skip
+returns-in_default-skip c =
     let rest = take_rest c.args.words.now (c.loop-at.at + 1) in
-    (c.loop-at.invariant.0, passed_broken _ _ c.loop-at.invariant.1 c.loop-at-test.true c.in-Some.dropped c.in-default-skip.field-0 (sym c.in-Some.ensures) (ap (ending false c.in-Some.dropped) (sym rest) ∙ sym c.in-default-skip.ensures))
+    (c.loop-at.invariant.0, passed_broken _ _ c.loop-at.invariant.1 c.loop-at-test.true c.in-Some.dropped c.in_default-skip.field-0 (sym c.in-Some.ensures) (ap (ending false c.in-Some.dropped) (sym rest) ∙ sym c.in_default-skip.ensures))
 
 -- behind the mark its dropped terms end, within the words
 skips : (c : goal.In-Ok) → (ending false c.in-Some.dropped (drop (c.loop-at.at + 1) c.args.words.now) ≡ Ok c.in-Ok.size) × (c.loop-at.at + (1 + c.in-Ok.size) ≤ length c.args.words.now)
 skips c = skip_within _ _ _ _ c.loop-at-test.true c.in-Ok.ensures
 
-pub overflow-add-at-in-loop-at : goal.overflow-add-at-in-loop-at
-overflow-add-at-in-loop-at c = omega (arith, (skips c).1)
+pub overflow_add-at-in-loop-at : goal.overflow_add-at-in-loop-at
+overflow_add-at-in-loop-at c = omega (arith, (skips c).1)
 
-pub overflow-add-at-in-loop-at-2 : goal.overflow-add-at-in-loop-at-2
-overflow-add-at-in-loop-at-2 c = omega (arith, (skips c).1)
+pub overflow_add-at-in-loop-at-2 : goal.overflow_add-at-in-loop-at-2
+overflow_add-at-in-loop-at-2 c = omega (arith, (skips c).1)
 
 pub loop-at-preserved : goal.loop-at-preserved
 loop-at-preserved c =

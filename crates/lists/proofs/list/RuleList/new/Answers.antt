@@ -3,9 +3,9 @@ use Rattle.lists.specs.Sides.{every}
 use Rattle.lists.specs.Sound.{rising_from, none_overlap_from}
 use Rattle.lists.proofs.list.RuleList.new.Goals as goal
 
-pub invariant-of-result : goal.invariant-of-result
+pub invariant_of-result : goal.invariant_of-result
 unfolding every rising_from none_overlap_from
-invariant-of-result c =
+invariant_of-result c =
     let forms = c.new.ensures.items in
     let rules = c.new-2.ensures.items in
-    (refl, (simp forms, (simp rules, (simp rules, (simp rules, (simp forms, tt))))))
+    record { layered = refl; rising = simp forms; shaped = simp rules; linear = simp rules; apart = simp rules; ruled = simp forms }

@@ -7,12 +7,12 @@ use Rattle.steppers.proofs.run.MachineLanguage.load.Goals as goal
 
 pub append-requires : goal.append-requires
 append-requires g c =
-    let l = loads_held g.S.Stepper.table g.met.S.Stepper.sound c.args.words.now (term_of (vec_items c.args.self.now.term)) _ c.in-ok-admit.ensures in
+    let l = loads_held g.S.Stepper.table g.met.S.Stepper.sound c.args.words.now (term_of (vec_items c.args.self.now.term)) _ c.in_ok-admit.ensures in
     omega (arith, c.clear.ensures.len, c.clear.ensures.capacity, c.args.self.now.room, l.2)
 
-pub invariant-of-self : goal.invariant-of-self
-invariant-of-self g c =
-    let l = loads_held g.S.Stepper.table g.met.S.Stepper.sound c.args.words.now (term_of (vec_items c.args.self.now.term)) _ c.in-ok-admit.ensures in
+pub invariant_of-self : goal.invariant_of-self
+invariant_of-self g c =
+    let l = loads_held g.S.Stepper.table g.met.S.Stepper.sound c.args.words.now (term_of (vec_items c.args.self.now.term)) _ c.in_ok-admit.ensures in
     let items = c.append.ensures.items ∙ ap (λ xs. xs ++ c.args.words.now) c.clear.ensures.items in
     (ap holdable items ∙ l.1, (omega (arith, c.clear.ensures.capacity, c.args.self.now.room, c.append.ensures.room), (c.args.self.now.room_for_next, tt)))
 
@@ -21,6 +21,6 @@ returns g c =
     let table = g.S.Stepper.table in
     let was = term_of (vec_items c.args.self.now.term) in
     let words = c.args.words.now in
-    let l = loads_held table g.met.S.Stepper.sound words was _ c.in-ok-admit.ensures in
+    let l = loads_held table g.met.S.Stepper.sound words was _ c.in_ok-admit.ensures in
     let items = c.append.ensures.items ∙ ap (λ xs. xs ++ words) c.clear.ensures.items in
     record { answer = subst (λ xs. Loads (meaning_of table) words was (Ok (record { words = length words; uses = 0 })) (term_of xs)) (sym items) l.0; stays = refl }

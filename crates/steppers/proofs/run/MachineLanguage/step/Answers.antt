@@ -9,17 +9,17 @@ use Rattle.steppers.specs.Written.{rewritten}
 use Rattle.steppers.proofs.Machining.{going, settles, no_items, some-term, begins, steps_nothing, steps_ended, steps_waits, steps_sticks, steps_no_child, rewrites}
 use Rattle.steppers.proofs.run.MachineLanguage.step.Goals as goal
 
-pub returns-then-is-empty : goal.returns-then-is-empty
-returns-then-is-empty g c =
+pub returns-then-is_empty : goal.returns-then-is_empty
+returns-then-is_empty g c =
     let v = c.args.self.now.term in
-    let none = no_items (vec_items v) v.len v.ok.0 (eqb-true _ 0 (sym c.if-is-empty.ensures)) in
+    let none = no_items (vec_items v) v.len v.ok.0 (eqb-true _ 0 (sym c.if-is_empty.ensures)) in
     record { answer = steps_nothing g.S.Stepper.table g.met.S.Stepper.sound (vec_items v) c.args.inputs none; stays = refl }
 
-pub returns-then-is-over : goal.returns-then-is-over
-returns-then-is-over g c =
+pub returns-then-is_over : goal.returns-then-is_over
+returns-then-is_over g c =
     let v = c.args.self.now.term in
-    let t = some-term (vec_items v) v.len c.args.self.now.holds v.ok.0 (eqb-false _ 0 (sym c.if-is-empty.ensures)) in
-    let over = c.if-is-over.ensures t.0 (begins _ t.0 t.1 (t.2 ∙ sym c.deref.ensures.value)) in
+    let t = some-term (vec_items v) v.len c.args.self.now.holds v.ok.0 (eqb-false _ 0 (sym c.if-is_empty.ensures)) in
+    let over = c.if-is_over.ensures t.0 (begins _ t.0 t.1 (t.2 ∙ sym c.deref.ensures.value)) in
     record { answer = steps_ended g.S.Stepper.table g.met.S.Stepper.sound (vec_items v) c.args.inputs t.0 t.1 t.2 (sym over); stays = refl }
 
 pub rewrite-fits-requires : goal.rewrite-fits-requires
@@ -28,7 +28,7 @@ rewrite-fits-requires g c =
     let sound = g.met.S.Stepper.sound in
     let v = c.args.self.now.term in
     let ws = vec_items v in
-    let t = going table sound ws _ v.len c.args.self.now.holds v.ok.0 (eqb-false _ 0 (sym c.if-is-empty.ensures)) c.deref.ensures.value c.if-is-over.ensures in
+    let t = going table sound ws _ v.len c.args.self.now.holds v.ok.0 (eqb-false _ 0 (sym c.if-is_empty.ensures)) c.deref.ensures.value c.if-is_over.ensures in
     let found = subst (λ xs. FoundIn table xs c.args.inputs c.find-spot.result) c.deref-2.ensures.value c.find-spot.ensures in
     let r = rewrites table sound ws c.args.inputs t.0 t.1 t.2 t.4 c.find-spot.result found c.in-Replace.effect c.in-Replace.by c.in-Replace.is in
     let same = sym c.deref-in-Replace.ensures.value in
@@ -36,22 +36,22 @@ rewrite-fits-requires g c =
       few = subst (λ xs. length xs ≤ 1024) same t.3;
       within = (subst (λ xs. c.find-spot.result.outer ≤ length xs) same r.outer_within, subst (λ xs. c.find-spot.result.node ≤ length xs) same r.node_within);
       wordable = r.wordable;
-      room = omega (arith, c.most-words.ensures, sound.holds_few, c.args.self.now.room_for_next);
+      room = omega (arith, c.most_words.ensures, sound.holds_few, c.args.self.now.room_for_next);
     }
 
-pub invariant-of-self-in-Replace : goal.invariant-of-self-in-Replace
-invariant-of-self-in-Replace g c =
+pub invariant_of-self-in-Replace : goal.invariant_of-self-in-Replace
+invariant_of-self-in-Replace g c =
     let table = g.S.Stepper.table in
     let sound = g.met.S.Stepper.sound in
     let v = c.args.self.now.term in
     let ws = vec_items v in
-    let t = going table sound ws _ v.len c.args.self.now.holds v.ok.0 (eqb-false _ 0 (sym c.if-is-empty.ensures)) c.deref.ensures.value c.if-is-over.ensures in
+    let t = going table sound ws _ v.len c.args.self.now.holds v.ok.0 (eqb-false _ 0 (sym c.if-is_empty.ensures)) c.deref.ensures.value c.if-is_over.ensures in
     let found = subst (λ xs. FoundIn table xs c.args.inputs c.find-spot.result) c.deref-2.ensures.value c.find-spot.ensures in
     let spot = c.find-spot.result in
     let by = c.in-Replace.by in
     let r = rewrites table sound ws c.args.inputs t.0 t.1 t.2 t.4 spot found c.in-Replace.effect by c.in-Replace.is in
     let same = c.deref-in-Replace.ensures.value in
-    let size = c.rewrite-fits.ensures.answer ∙ ap (λ xs. leb (length (rewritten xs spot.outer spot.node by)) c.most-words.result) same ∙ ap (leb (length (rewritten ws spot.outer spot.node by))) c.most-words.ensures in
+    let size = c.rewrite-fits.ensures.answer ∙ ap (λ xs. leb (length (rewritten xs spot.outer spot.node by)) c.most_words.result) same ∙ ap (leb (length (rewritten ws spot.outer spot.node by))) c.most_words.ensures in
     let items : c.rewrite-fits.result ≡ true → vec_items c.rewrite-fits.new.out ≡ rewritten ws spot.outer spot.node by = λ e. c.rewrite-fits.ensures.items e ∙ ap (λ xs. rewritten xs spot.outer spot.node by) same in
     let left = settles table sound ws c.args.inputs t.0 t.1 t.2 t.4 spot found c.in-Replace.effect by v c.rewrite-fits.new.out c.settle.new.term c.settle.new.next c.rewrite-fits.result r refl size items c.args.self.now.room (omega (arith, c.args.self.now.room_for_next, c.rewrite-fits.ensures.room)) c.args.self.now.holds c.settle.ensures in
     (left.0, (left.1, (left.2, tt)))
@@ -62,16 +62,16 @@ returns-in-Replace g c =
     let sound = g.met.S.Stepper.sound in
     let v = c.args.self.now.term in
     let ws = vec_items v in
-    let t = going table sound ws _ v.len c.args.self.now.holds v.ok.0 (eqb-false _ 0 (sym c.if-is-empty.ensures)) c.deref.ensures.value c.if-is-over.ensures in
+    let t = going table sound ws _ v.len c.args.self.now.holds v.ok.0 (eqb-false _ 0 (sym c.if-is_empty.ensures)) c.deref.ensures.value c.if-is_over.ensures in
     let found = subst (λ xs. FoundIn table xs c.args.inputs c.find-spot.result) c.deref-2.ensures.value c.find-spot.ensures in
     let spot = c.find-spot.result in
     let by = c.in-Replace.by in
     let r = rewrites table sound ws c.args.inputs t.0 t.1 t.2 t.4 spot found c.in-Replace.effect by c.in-Replace.is in
     let same = c.deref-in-Replace.ensures.value in
-    let size = c.rewrite-fits.ensures.answer ∙ ap (λ xs. leb (length (rewritten xs spot.outer spot.node by)) c.most-words.result) same ∙ ap (leb (length (rewritten ws spot.outer spot.node by))) c.most-words.ensures in
+    let size = c.rewrite-fits.ensures.answer ∙ ap (λ xs. leb (length (rewritten xs spot.outer spot.node by)) c.most_words.result) same ∙ ap (leb (length (rewritten ws spot.outer spot.node by))) c.most_words.ensures in
     let items : c.rewrite-fits.result ≡ true → vec_items c.rewrite-fits.new.out ≡ rewritten ws spot.outer spot.node by = λ e. c.rewrite-fits.ensures.items e ∙ ap (λ xs. rewritten xs spot.outer spot.node by) same in
     let left = settles table sound ws c.args.inputs t.0 t.1 t.2 t.4 spot found c.in-Replace.effect by v c.rewrite-fits.new.out c.settle.new.term c.settle.new.next c.rewrite-fits.result r refl size items c.args.self.now.room (omega (arith, c.args.self.now.room_for_next, c.rewrite-fits.ensures.room)) c.args.self.now.holds c.settle.ensures in
-    record { answer = subst (λ s. StepGives (meaning_of table) c.args.inputs (term_of ws) (Ok s) (term_of (vec_items c.settle.new.term))) (sym c.moved-if.ensures) left.3; stays = refl }
+    record { answer = subst (λ s. StepGives (meaning_of table) c.args.inputs (term_of ws) (Ok s) (term_of (vec_items c.settle.new.term))) (sym c.moved_if.ensures) left.3; stays = refl }
 
 pub returns-in-Wait : goal.returns-in-Wait
 returns-in-Wait g c =
@@ -79,11 +79,11 @@ returns-in-Wait g c =
     let sound = g.met.S.Stepper.sound in
     let v = c.args.self.now.term in
     let ws = vec_items v in
-    let t = going table sound ws _ v.len c.args.self.now.holds v.ok.0 (eqb-false _ 0 (sym c.if-is-empty.ensures)) c.deref.ensures.value c.if-is-over.ensures in
+    let t = going table sound ws _ v.len c.args.self.now.holds v.ok.0 (eqb-false _ 0 (sym c.if-is_empty.ensures)) c.deref.ensures.value c.if-is_over.ensures in
     let found = subst (λ xs. FoundIn table xs c.args.inputs c.find-spot.result) c.deref-2.ensures.value c.find-spot.ensures in
     let waits = steps_waits table sound ws c.args.inputs t.0 t.1 t.2 t.4 c.find-spot.result found c.in-Wait.is in
-    let fits : leb (length ws) table.capacity ≡ leb c.len.result c.most-words-in-Wait.result = let size : c.len.result ≡ length ws = c.len.ensures ∙ v.ok.0 in let most = c.most-words-in-Wait.ensures in cc in
-    let answer : cond (leb (length ws) table.capacity) (Moved 0) Full ≡ c.moved-if-in-Wait.result = ap (λ b. cond b (Moved 0) Full) fits ∙ sym c.moved-if-in-Wait.ensures in
+    let fits : leb (length ws) table.capacity ≡ leb c.len.result c.most_words-in-Wait.result = let size : c.len.result ≡ length ws = c.len.ensures ∙ v.ok.0 in let most = c.most_words-in-Wait.ensures in cc in
+    let answer : cond (leb (length ws) table.capacity) (Moved 0) Full ≡ c.moved_if-in-Wait.result = ap (λ b. cond b (Moved 0) Full) fits ∙ sym c.moved_if-in-Wait.ensures in
     record { answer = subst (λ s. StepGives (meaning_of table) c.args.inputs (term_of ws) (Ok s) (term_of ws)) answer waits; stays = refl }
 
 pub returns-in-Child : goal.returns-in-Child
@@ -92,6 +92,6 @@ returns-in-Child g c =
     let sound = g.met.S.Stepper.sound in
     let v = c.args.self.now.term in
     let ws = vec_items v in
-    let t = going table sound ws _ v.len c.args.self.now.holds v.ok.0 (eqb-false _ 0 (sym c.if-is-empty.ensures)) c.deref.ensures.value c.if-is-over.ensures in
+    let t = going table sound ws _ v.len c.args.self.now.holds v.ok.0 (eqb-false _ 0 (sym c.if-is_empty.ensures)) c.deref.ensures.value c.if-is_over.ensures in
     let found = subst (λ xs. FoundIn table xs c.args.inputs c.find-spot.result) c.deref-2.ensures.value c.find-spot.ensures in
     record { answer = ⊎_elim (λ p. absurd (steps_no_child table sound ws c.args.inputs t.0 t.1 t.2 t.4 c.find-spot.result found p.0 p.1)) (steps_sticks table sound ws c.args.inputs t.0 t.1 t.2 t.4 c.find-spot.result found) c.in-Child.is; stays = refl }
