@@ -14,7 +14,7 @@ pub invariant_of-self : goal.invariant_of-self
 invariant_of-self g c =
     let l = loads_held g.S.Stepper.table g.met.S.Stepper.sound c.args.words.now (term_of (vec_items c.args.self.now.term)) _ c.in_ok-admit.ensures in
     let items = c.append.ensures.items ∙ ap (λ xs. xs ++ c.args.words.now) c.clear.ensures.items in
-    (ap holdable items ∙ l.1, (omega (arith, c.clear.ensures.capacity, c.args.self.now.room, c.append.ensures.room), (c.args.self.now.room_for_next, tt)))
+    record { holds = ap holdable items ∙ l.1; room = omega (arith, c.clear.ensures.capacity, c.args.self.now.room, c.append.ensures.room); room_for_next = c.args.self.now.room_for_next }
 
 pub returns : goal.returns
 returns g c =

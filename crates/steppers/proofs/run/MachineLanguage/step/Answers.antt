@@ -54,7 +54,7 @@ invariant_of-self-in-Replace g c =
     let size = c.rewrite-fits.ensures.answer ∙ ap (λ xs. leb (length (rewritten xs spot.outer spot.node by)) c.most_words.result) same ∙ ap (leb (length (rewritten ws spot.outer spot.node by))) c.most_words.ensures in
     let items : c.rewrite-fits.result ≡ true → vec_items c.rewrite-fits.new.out ≡ rewritten ws spot.outer spot.node by = λ e. c.rewrite-fits.ensures.items e ∙ ap (λ xs. rewritten xs spot.outer spot.node by) same in
     let left = settles table sound ws c.args.inputs t.0 t.1 t.2 t.4 spot found c.in-Replace.effect by v c.rewrite-fits.new.out c.settle.new.term c.settle.new.next c.rewrite-fits.result r refl size items c.args.self.now.room (omega (arith, c.args.self.now.room_for_next, c.rewrite-fits.ensures.room)) c.args.self.now.holds c.settle.ensures in
-    (left.0, (left.1, (left.2, tt)))
+    record { holds = left.0; room = left.1; room_for_next = left.2 }
 
 pub returns-in-Replace : goal.returns-in-Replace
 returns-in-Replace g c =
