@@ -27,12 +27,12 @@ refused_text_lem v e f s is fault sentence =
 
 -- equal refusals of a call have one sentence
 abbrev pub reason_for : calls.Refusal → List ℕ
-reason_for e = call_sentence (answers.faultOf e).cause
+reason_for e = call_sentence (answers.fault_of e).cause
 
 pub told : (e d : calls.Refusal) → e ≡ d → reason_for d ≡ reason_for e
 told e d p = sym (ap reason_for p)
 
-pub refused_call : (e : calls.Refusal) (f : Fault) (s : List ℕ) → f ≡ answers.faultOf e → s ≡ reason_for e → refused_text f s ≡ refusal_text e
+pub refused_call : (e : calls.Refusal) (f : Fault) (s : List ℕ) → f ≡ answers.fault_of e → s ≡ reason_for e → refused_text f s ≡ refusal_text e
 refused_call e f s fault sentence =
     ap (refused_text f) sentence ∙ ap (λ (x : Fault). refused_text x (reason_for e)) fault
 

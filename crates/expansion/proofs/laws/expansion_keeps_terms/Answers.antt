@@ -3,4 +3,4 @@ use Rattle.expansion.proofs.PlainMarks as plainly
 use Rattle.expansion.proofs.laws.expansion_keeps_terms.Goals as goal
 
 pub returns : goal.returns
-returns c = record { formed = forming.formed; plain = plainly.plain-marks-off }
+returns c = record { formed = forming.formed; plain = plainly.plain_marks_off }

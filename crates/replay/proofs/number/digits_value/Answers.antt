@@ -4,12 +4,12 @@ use Rattle.replay.specs.Numbers.{digits_of}
 use Rattle.replay.proofs.Digits.{no_digit_at, one_digit_at, digits-none}
 use Rattle.replay.proofs.number.digits_value.Goals as goal
 
-pub returns-in-err-value : goal.returns-in-err-value
-returns-in-err-value c =
-    c.from-residual.ensures ∙ sym (no_digit_at _ _ _ _ c.loop-byte-test.true (sym c.in-err-value.ensures)) ∙ c.loop-byte.invariant
+pub returns-in_err-value : goal.returns-in_err-value
+returns-in_err-value c =
+    c.from_residual.ensures ∙ sym (no_digit_at _ _ _ _ c.loop-byte-test.true (sym c.in_err-value.ensures)) ∙ c.loop-byte.invariant
 
 pub loop-byte-preserved : goal.loop-byte-preserved
-loop-byte-preserved c = sym (one_digit_at _ _ _ _ c.loop-byte-test.true _ (sym c.in-ok-value.ensures)) ∙ c.loop-byte.invariant
+loop-byte-preserved c = sym (one_digit_at _ _ _ _ c.loop-byte-test.true _ (sym c.in_ok-value.ensures)) ∙ c.loop-byte.invariant
 
 pub returns : goal.returns
 returns c = sym (at_drop_all (digits_of c.args.most c.loop-byte.value) _ _ c.loop-byte-test.false ∙ digits-none _ _) ∙ c.loop-byte.invariant

@@ -9,7 +9,7 @@ loop-line-init c = plans_none _ _ c.new-entries.ensures.items c.new-calls.ensure
 
 pub loop-line-preserved : goal.loop-line-preserved
 loop-line-preserved c =
-    plans_next vec_items _ _ c.line-item.result c.deref.result.now _ _ _ _ c.in-ok-plan-line.field-0 c.loop-line-test.true c.line-item.is c.deref.ensures.value c.in-ok-push.ensures.items c.loop-line.invariant c.in-ok-plan-line.ensures
+    plans_next vec_items _ _ c.line-item.result c.deref.result.now _ _ _ _ c.in_ok-plan_line.field-0 c.loop-line-test.true c.line-item.is c.deref.ensures.value c.in_ok-push.ensures.items c.loop-line.invariant c.in_ok-plan_line.ensures
 
 pub returns : goal.returns
 returns c =
