@@ -23,4 +23,4 @@ pub returns-in_default-2 : goal.returns-in_default-2
 returns-in_default-2 c =
     let hash = starts_char 35 _ false c.if-starts_with.ensures.cases (lit< tt) (lit< tt) in
     let not = c.in_default-name in
-    (words_of c.in-Some.words.now, c.in-Some.ensures, (not.not-list, not.not-held, not.not-core, not.not-load, not.not_step, not.not-show, λ e. false≢true (hash.1 e)))
+    (words_of c.in-Some.words.now, c.in-Some.ensures, (not.not-list, not.not-held, not.not-core, not.not-load, not.not-step, not.not-show, λ e. false≢true (hash.1 e)))

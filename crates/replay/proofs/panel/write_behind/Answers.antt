@@ -11,7 +11,7 @@ loop-word-init g c plain = none-behind g.W.Write.write_str_gives c.args.f.now pl
 pub loop-word-preserved : goal.loop-word-preserved
 loop-word-preserved g c plain =
     has_written_of_eq g.W.Write.write_str_gives _ _ _ _ (behind_next _ _ c.loop-word-test.true)
-    (has_written_append g.W.Write.write_str_gives _ _ c.loop-word.f _ _ (c.loop-word.invariant plain) (c.in_ok-write.ensures.shows (c.loop-word.invariant plain).plain refl))
+    (has_written_append g.W.Write.write_str_gives _ _ c.loop-word.f _ _ (c.loop-word.invariant plain) (c.in_ok-write.ensures.writes (c.loop-word.invariant plain).plain refl))
 
 pub returns : goal.returns
 returns g c plain ok =

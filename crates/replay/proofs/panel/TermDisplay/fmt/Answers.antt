@@ -8,6 +8,6 @@ returns-in_default-clause-writes g c plain ok = none_at_all g.W.Write.write_str_
 
 pub returns-clause-writes : goal.returns-clause-writes
 returns-clause-writes g c plain ok =
-    let first = c.in_ok-write.ensures.shows plain refl in
+    let first = c.in_ok-write.ensures.writes plain refl in
     has_written_of_eq g.W.Write.write_str_gives _ _ _ _ (term_is _ _ _ c.in-Some.ensures.cases.0)
     (has_written_append g.W.Write.write_str_gives _ _ c.write.new.self _ _ first (c.write_behind.ensures first.plain ok))
