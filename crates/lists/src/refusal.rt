@@ -4,7 +4,7 @@ ghost use Rattle.lists.specs.Refusals.{place_of, fault_of};
 ghost use Rattle.lists.specs.declared.refusal.Refusal.TheVariants.{NoMemory};
 
 use std::alloc::{AllocError, AllocFailed};
-use terms::fault::Fault;
+pub use terms::fault::Fault;
 
 // A line of one of the two texts. Forms and rules are counted from 0.
 #[derive(Clone, Copy, Debug, PartialEq, Eq)]

@@ -1,15 +1,13 @@
 -- The words of a line, by its first space.
-use Rattle.std.proofs.Common.{◌≡◌, ℕ, ◌+◌, ◌<◌, Bool, true, false, List, [], ◌∷◌, ◌++◌, length, get_or, drop, Some, None, Option, Result, sym, refl, ap, ◌∙◌, subst, arith, lit<}
+use Rattle.std.proofs.Common.{◌≡◌, ℕ, ◌+◌, ◌<◌, Bool, true, false, List, [], ◌∷◌, ◌++◌, length, get_or, drop, Some, None, Option, sym, refl, ap, ◌∙◌, subst, arith, lit<}
 use lib.Utf8.{encode}
 use Rattle.std.specs.Str.Pattern.{FindsCharPrefix, CutsPrefixes, IsFullyTrimmed}
 use Rattle.std.proofs.lemmas.Str.Pattern.{drop_at_char}
 use Rattle.std.proofs.ByRecursion.{All-from_get_or}
-use Rattle.replay.specs.declared.command.Command.{Command}
-use Rattle.replay.specs.declared.command.Misread.{Misread}
 use Rattle.texts.specs.Texts.{pieces}
 use Rattle.texts.proofs.Cutting.{one_piece}
 use Rattle.texts.proofs.Parted.{piece_then}
-use Rattle.replay.specs.Commands.{filled_of, words_of, Asks}
+use Rattle.replay.specs.Commands.{filled_of, words_of}
 
 -- no space stands in it
 abbrev pub Unspaced : List ℕ → Type 0
@@ -63,9 +61,9 @@ pub two_words : (words : List (List ℕ)) (a b : List ℕ) (second behind : List
 two_words words a b second behind e f none = e ∙ ap (λ (ws : List (List ℕ)). a ∷ ws) (one_word second b behind f none)
 
 -- what a line asks for whose first word is known
-pub asks_of : (words : List (List ℕ)) (name known : List ℕ) (ws : List (List ℕ)) (r : Result Command Misread) → words ≡ name ∷ ws → name ≡ known → Asks (known ∷ ws) r → Asks words r
-asks_of words name known ws r e is asks =
-    subst (λ (l : List (List ℕ)). Asks l r) (sym (e ∙ ap (λ (w : List ℕ). w ∷ ws) is)) asks
+pub asks_of : {R : Type 0} (AsksFor : List (List ℕ) → R → Type 0) (words : List (List ℕ)) (name known : List ℕ) (ws : List (List ℕ)) (r : R) → words ≡ name ∷ ws → name ≡ known → AsksFor (known ∷ ws) r → AsksFor words r
+asks_of AsksFor words name known ws r e is asks =
+    subst (λ (l : List (List ℕ)). AsksFor l r) (sym (e ∙ ap (λ (w : List ℕ). w ∷ ws) is)) asks
 
 abbrev IsFalse : Bool → Type 0
 IsFalse false = Unit {0}

@@ -3,27 +3,30 @@ use Rattle.std.specs.Prelude.{◌≡◌, ℕ, List, [], ◌∷◌, ◌++◌, rep
 use Rattle.languages.specs.declared.calls.Call.{Call}
 use Rattle.languages.specs.declared.calls.Call.TheVariants as call
 use Rattle.replay.specs.declared.command.Command.TheVariants as command
-use Rattle.replay.specs.declared.command.Core.{Core}
+use Rattle.replay.specs.declared.machine_command.Core.{Core}
+use Rattle.replay.specs.declared.machine_command.MachineCommand.TheVariants as machine
 use Rattle.replay.specs.declared.plan.Entry.{Entry}
 use Rattle.replay.specs.declared.plan.Entry.TheVariants as entry
 use Rattle.replay.specs.Numbers.{Spell, NoWordFirst}
 use Rattle.replay.specs.Commands.{words_of, Asks}
+use Rattle.replay.specs.MachineCommands.{NamesNoMachineCommand, AsksMachine}
 
 -- a line with these words asks for this call: a load has the words that the line spells, a show lends a buffer of zeros
 abbrev pub Calls : List (List ℕ) → Call → Type 0
 Calls words (call.Load v) = (texts : List (List ℕ)) × (words ≡ codes "load" ∷ texts) × Spell texts (vec_items v)
-Calls words (call.Step image) = Asks words (Ok (command.Step image))
-Calls words (call.Show buffer) = (n : ℕ) × Asks words (Ok (command.Show n)) × (vec_items buffer ≡ replicate n 0)
+Calls words (call.Step image) = AsksMachine words (Ok (machine.Step image))
+Calls words (call.Show buffer) = (n : ℕ) × AsksMachine words (Ok (machine.Show n)) × (vec_items buffer ≡ replicate n 0)
 
 -- what the account says of a line with these words
 abbrev pub Says : List (List ℕ) → Entry → Type 0
 Says words entry.Nothing = Asks words (Ok command.Nothing)
 Says words entry.NoText = Unit {0}
-Says words (entry.Misread m) = Asks words (Err m)
+Says words (entry.Misread m) = NamesNoMachineCommand words × Asks words (Err m)
+Says words (entry.MachineMisread m) = AsksMachine words (Err m)
 Says words (entry.NoWord w) = (texts : List (List ℕ)) × (words ≡ codes "load" ∷ texts) × NoWordFirst texts w.now
 Says words (entry.List header table) = Asks words (Ok (command.List header table))
 Says words entry.Held = Asks words (Ok command.Held)
-Says words (entry.Core line) = (core : Core) × Asks words (Ok (command.Core core))
+Says words (entry.Core line) = (core : Core) × AsksMachine words (Ok (machine.Core core))
 Says words (entry.Call line) = Unit {0}
 
 -- a line that is a call puts it behind the calls before it, and any other line leaves them
@@ -32,6 +35,7 @@ Plans words before (entry.Call line) after = (x : Call) × Calls words x × (aft
 Plans words before entry.Nothing after = after ≡ before
 Plans words before entry.NoText after = after ≡ before
 Plans words before (entry.Misread m) after = after ≡ before
+Plans words before (entry.MachineMisread m) after = after ≡ before
 Plans words before (entry.NoWord w) after = after ≡ before
 Plans words before (entry.List header table) after = after ≡ before
 Plans words before entry.Held after = after ≡ before

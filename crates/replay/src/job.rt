@@ -1,7 +1,7 @@
 // The lines of a job, and the stretches of them that belong to one machine.
 ghost use Rattle.std.specs.Prelude.{◌<◌, ◌≤◌, length};
 
-use crate::command::{Command, Core, parse};
+use crate::machine_command::{Core, MachineCommand, parse_machine};
 use std::io;
 use std::io::{BufRead, BufReader};
 use std::str::from_utf8;
@@ -21,8 +21,8 @@ pub fn core_of(line: &[u8]) -> Option<Core> {
     let Ok(text) = from_utf8(line) else {
         return None;
     };
-    match parse(text) {
-        Ok(Command::Core(core)) => Some(core),
+    match parse_machine(text) {
+        Some(Ok(MachineCommand::Core(core))) => Some(core),
         _ => None,
     }
 }

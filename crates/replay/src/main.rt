@@ -5,6 +5,7 @@
 mod account;
 mod command;
 mod job;
+mod machine_command;
 mod number;
 mod panel;
 mod plan;

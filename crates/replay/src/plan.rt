@@ -1,9 +1,12 @@
 // Reads the lines of a stretch: what the account says of each, and the calls of the machine in order.
-ghost use Rattle.std.specs.Prelude.{[], ◌∷◌, map, IfOk, vec_items, codes};
+ghost use Rattle.std.specs.Prelude.{List, [], ◌∷◌, map, IfOk, vec_items, codes};
+ghost use Rattle.languages.specs.declared.calls.Call.{Call};
 ghost use Rattle.replay.specs.Commands.{words_of};
+ghost use Rattle.replay.specs.MachineCommands.{NamesNoMachineCommand};
 ghost use Rattle.replay.specs.Plans.{Says, Plans, PlansAll};
 
 use crate::command::{Command, Misread, parse};
+use crate::machine_command::{MachineCommand, MachineMisread, parse_machine};
 use crate::words::read_words;
 use languages::calls::Call;
 use std::alloc::{AllocError, Global};
@@ -16,6 +19,7 @@ pub enum Entry<'a> {
     Nothing,
     NoText,
     Misread(Misread<'a>),
+    MachineMisread(MachineMisread<'a>),
     // this word of a load is none
     NoWord(&'a str),
     List { header: &'a str, table: &'a str },
@@ -50,6 +54,19 @@ fn plan_load<'a>(
     }
 }
 
+// What a line asks for that asks nothing of the machine.
+fn plan_other(line: &str) -> Entry<'_>
+    ensures says { NamesNoMachineCommand (words_of line.now) → Says (words_of line.now) result }
+    ensures plans { (calls : List Call) → Plans (words_of line.now) calls result calls }
+{
+    match parse(line) {
+        Ok(Command::Nothing) => Entry::Nothing,
+        Ok(Command::List { header, table }) => Entry::List { header, table },
+        Ok(Command::Held) => Entry::Held,
+        Err(misread) => Entry::Misread(misread),
+    }
+}
+
 // What a line asks for. If that is a call, it is put behind the others.
 fn plan_line<'a>(
     heap: Global,
@@ -62,21 +79,19 @@ fn plan_line<'a>(
         return Ok(Entry::NoText);
     };
     let line = text.trim_matches(' ');
-    match parse(text) {
-        Ok(Command::Nothing) => Ok(Entry::Nothing),
-        Ok(Command::List { header, table }) => Ok(Entry::List { header, table }),
-        Ok(Command::Held) => Ok(Entry::Held),
-        Ok(Command::Core(_)) => Ok(Entry::Core(line)),
-        Ok(Command::Load { words }) => plan_load(heap, line, words, calls),
-        Ok(Command::Step { image }) => {
+    match parse_machine(text) {
+        Some(Ok(MachineCommand::Core(_))) => Ok(Entry::Core(line)),
+        Some(Ok(MachineCommand::Load { words })) => plan_load(heap, line, words, calls),
+        Some(Ok(MachineCommand::Step { image })) => {
             calls.push(Call::Step(image))?;
             Ok(Entry::Call(line))
         }
-        Ok(Command::Show { length }) => {
+        Some(Ok(MachineCommand::Show { length })) => {
             calls.push(Call::Show(vec![in heap; 0; length]?))?;
             Ok(Entry::Call(line))
         }
-        Err(misread) => Ok(Entry::Misread(misread)),
+        Some(Err(misread)) => Ok(Entry::MachineMisread(misread)),
+        None => Ok(plan_other(text)),
     }
 }
 

@@ -89,6 +89,7 @@ fn print_entry(
         (Entry::Nothing, _) => Ok(()),
         (Entry::NoText, _) => println!(rt; "line {number}: the line is no text"),
         (Entry::Misread(misread), _) => println!(rt; "line {number}: {misread}"),
+        (Entry::MachineMisread(misread), _) => println!(rt; "line {number}: {misread}"),
         (Entry::NoWord(word), _) => println!(rt; "line {number}: {word} is no word label:payload"),
         (Entry::List { header, table }, _) => print_list(rt, place, number, header, table),
         (Entry::Held, _) => {

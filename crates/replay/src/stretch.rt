@@ -1,5 +1,5 @@
 // Runs a stretch of a job: the lines of one machine, or those before the first.
-use crate::command::Core;
+use crate::machine_command::Core;
 use crate::plan::plan_lines;
 use crate::print::print_entries;
 use languages::language::Language;

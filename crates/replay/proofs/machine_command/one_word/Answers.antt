@@ -1,6 +1,6 @@
 use Rattle.std.proofs.Common.{sym}
 use Rattle.std.proofs.lemmas.Bool.{eqb-true}
-use Rattle.replay.proofs.command.one_word.Goals as goal
+use Rattle.replay.proofs.machine_command.one_word.Goals as goal
 use Rattle.replay.proofs.Spaced.{one_word}
 
 pub returns-then-is_blank : goal.returns-then-is_blank

@@ -1,6 +1,6 @@
 use Rattle.std.proofs.Common.{ℕ, List, ◌∷◌, codes, sym, refl, ap, inl}
 use Rattle.std.proofs.lemmas.Bool.{eqb-true}
-use Rattle.replay.proofs.command.parse_show.Goals as goal
+use Rattle.replay.proofs.machine_command.parse_show.Goals as goal
 use Rattle.replay.proofs.Spaced.{no_words}
 
 pub returns-then-is_blank : goal.returns-then-is_blank

@@ -1,0 +1,131 @@
+// Tells what a line of a job asks of the machine.
+ghost use Rattle.std.specs.Prelude.{◌∷◌, MatchOption, codes};
+ghost use Rattle.replay.specs.Commands.{words_of};
+ghost use Rattle.replay.specs.MachineCommands.{OneOf, NamesNoMachineCommand, AsksMachine};
+
+use crate::command::{is_blank, next_word};
+use crate::number::number;
+use languages::language::SHOWN_WORDS;
+use std::fmt;
+
+const LAST_IMAGE: u32 = 4_294_967_295;
+// The longest buffer that the program lends for a show.
+const LONGEST_BUFFER: u32 = 4096;
+
+// The core language of a machine.
+#[derive(Clone, Copy)]
+pub enum Core {
+    Logic,
+    Sequence,
+}
+
+// A command for the machine.
+#[derive(Clone, Copy)]
+pub enum MachineCommand<'a> {
+    // make a new machine
+    Core(Core),
+    // load these words, as they stand in the line
+    Load { words: &'a str },
+    // step with these inputs
+    Step { image: u32 },
+    // show into a buffer of this length
+    Show { length: usize },
+}
+
+// Why a line that begins like a command for the machine is none.
+#[derive(Clone, Copy)]
+pub enum MachineMisread<'a> {
+    WrongWords { usage: &'static str },
+    // no core language has this name
+    NoCore(&'a str),
+    // not a number in base ten up to the largest that the command takes
+    NoNumber(&'a str),
+}
+
+impl fmt::Display for MachineMisread<'_> {
+    fn fmt<W: fmt::Write>(&self, f: &mut fmt::Formatter<W>) -> fmt::Result {
+        match *self {
+            MachineMisread::WrongWords { usage } => write!(
+                f,
+                "wrong number of words, the command is: {usage}"
+            ),
+            MachineMisread::NoCore(word) => write!(
+                f,
+                "there is no core language {word}, only logic and sequence"
+            ),
+            MachineMisread::NoNumber(word) => {
+                write!(f, "{word} is no number that the command takes")
+            }
+        }
+    }
+}
+
+// The one word of a line that has one.
+fn one_word(line: &str) -> Option<&str>
+    ensures { OneOf (words_of line.now) result }
+{
+    let (word, behind) = next_word(line)?;
+    if is_blank(behind) { Some(word) } else { None }
+}
+
+fn parse_core(words: &str) -> Result<MachineCommand<'_>, MachineMisread<'_>>
+    ensures { AsksMachine (codes "core" ∷ words_of words.now) result }
+{
+    match one_word(words) {
+        Some("logic") => Ok(MachineCommand::Core(Core::Logic)),
+        Some("sequence") => Ok(MachineCommand::Core(Core::Sequence)),
+        Some(name) => Err(MachineMisread::NoCore(name)),
+        None => Err(MachineMisread::WrongWords {
+            usage: "core logic or core sequence",
+        }),
+    }
+}
+
+fn parse_step(words: &str) -> Result<MachineCommand<'_>, MachineMisread<'_>>
+    ensures { AsksMachine (codes "step" ∷ words_of words.now) result }
+{
+    let Some(word) = one_word(words) else {
+        return Err(MachineMisread::WrongWords {
+            usage: "step IMAGE",
+        });
+    };
+    match number(word, LAST_IMAGE) {
+        Some(image) => Ok(MachineCommand::Step { image }),
+        None => Err(MachineMisread::NoNumber(word)),
+    }
+}
+
+fn parse_show(words: &str) -> Result<MachineCommand<'_>, MachineMisread<'_>>
+    ensures { AsksMachine (codes "show" ∷ words_of words.now) result }
+{
+    if is_blank(words) {
+        return Ok(MachineCommand::Show {
+            length: SHOWN_WORDS,
+        });
+    }
+    let Some(word) = one_word(words) else {
+        return Err(MachineMisread::WrongWords {
+            usage: "show or show LENGTH",
+        });
+    };
+    match number(word, LONGEST_BUFFER) {
+        Some(length) => Ok(MachineCommand::Show {
+            length: length as usize,
+        }),
+        None => Err(MachineMisread::NoNumber(word)),
+    }
+}
+
+// What a line asks of the machine; none for any other line.
+pub fn parse_machine(line: &str) -> Option<Result<MachineCommand<'_>, MachineMisread<'_>>>
+    ensures { MatchOption result (NamesNoMachineCommand (words_of line.now)) (AsksMachine (words_of line.now)) }
+{
+    let (name, words) = next_word(line)?;
+    match name {
+        "core" => Some(parse_core(words)),
+        "load" => Some(Ok(MachineCommand::Load { words })),
+        "step" => Some(parse_step(words)),
+        "show" => Some(parse_show(words)),
+        _ => None,
+    }
+}
