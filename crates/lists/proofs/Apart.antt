@@ -1,11 +1,11 @@
 -- Left sides that overlap, and rules of which no two do: the tests as statements, both ways.
-use Rattle.std.proofs.Common.{◌≡◌, ℕ, zero, suc, ◌<◌, Bool, true, false, not, eqb, ◌⊎◌, List, [], ◌∷◌, ◌++◌, length, get_or, sym, refl, ap, ◌∙◌, subst, ⊎_elim, arith}
+use Rattle.std.proofs.Common.{◌≡◌, ℕ, zero, suc, ◌<◌, Bool, true, false, not, eqb, List, [], ◌∷◌, ◌++◌, length, get_or, sym, refl, ap, ◌∙◌, subst, ⊎_elim, arith}
 use Rattle.std.specs.List.{ContainsAt as Has, AllByRecursion as All}
 use Rattle.std.proofs.ByRecursion.{has_append_left, has_push, has_push_cases}
 use Rattle.std.proofs.lemmas.Bool.{and_parts, and_from, eq-eqb, eqb-true, both_ways, not-true, not_from_false, false≢true}
 use Rattle.lists.specs.declared.parts.Form.{Form}
 use Rattle.lists.specs.Lines.{Sides}
-use Rattle.lists.specs.Sides.{every, any, clash, agree, overlapping, form_word, is_for}
+use Rattle.lists.specs.Sides.{any, clash, agree, overlapping, form_word, is_for}
 use Rattle.lists.specs.Sound.{overlaps_some, none_overlap_from, none_overlap, all_ruled}
 use Rattle.lists.specs.Laws.{Overlaps, HasRule}
 use Rattle.lists.proofs.Quantified.{all_if_every, every_if_all, all_by, has_if_any, any_if_has, none_if_not_any, not_any_if_none}

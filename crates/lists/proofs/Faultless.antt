@@ -1,10 +1,9 @@
 -- A list has no fault exactly when it passes the tests that every list passes.
-use Rattle.std.proofs.Common.{◌≡◌, ℕ, suc, Bool, true, false, cond, not, List, [], ◌∷◌, ◌++◌, Some, None, Option, refl, ap}
+use Rattle.std.proofs.Common.{◌≡◌, ℕ, suc, Bool, true, false, cond, not, List, [], ◌∷◌, ◌++◌, Some, None, Option, refl}
 use Rattle.std.specs.Option.{option_or}
 use Rattle.std.proofs.lemmas.Bool.{and_parts, and_from, not_from_false, not-true}
 use Rattle.lists.specs.declared.parts.Form.{Form}
 use Rattle.lists.specs.declared.refusal.Refusal.{Refusal}
-use Rattle.lists.specs.declared.refusal.Refusal.TheVariants.{Overlap}
 use Rattle.lists.specs.Lines.{Sides}
 use Rattle.lists.specs.Sides.{every, any, shaped, linear, is_for}
 use Rattle.lists.specs.Sound.{all_shaped, all_linear, overlaps_some, none_overlap_from, none_overlap, all_ruled}

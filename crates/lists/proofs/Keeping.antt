@@ -1,12 +1,12 @@
 -- What a header and a table keep whose lines are in order, and what a list keeps that has no fault.
-use Rattle.std.proofs.Common.{◌≡◌, ℕ, zero, suc, ◌+◌, Bool, true, false, not, ◌&&◌, eqb, leb, List, [], ◌∷◌, ◌++◌, length, Some, None, Ok, Err, Option, Result, sym, refl, ap, ◌∙◌, subst, append_assoc, append-nil, arith}
+use Rattle.std.proofs.Common.{◌≡◌, ℕ, zero, suc, Bool, true, false, ◌&&◌, eqb, List, [], ◌∷◌, ◌++◌, length, Some, None, Ok, Err, Option, Result, sym, refl, ap, ◌∙◌, subst, append_assoc, append-nil, arith}
 use Rattle.std.proofs.lemmas.Bool.{and_parts, eqb-true}
 use Rattle.lists.specs.declared.parts.Form.{Form}
 use Rattle.lists.specs.declared.parts.Head.{Head}
 use Rattle.lists.specs.declared.refusal.Place.{Place}
 use Rattle.lists.specs.declared.refusal.Place.TheVariants as place
 use Rattle.lists.specs.declared.refusal.Refusal.{Refusal}
-use Rattle.lists.specs.declared.refusal.Refusal.TheVariants.{LineBroken, TableDiffers, Overlap}
+use Rattle.lists.specs.declared.refusal.Refusal.TheVariants.{LineBroken, TableDiffers}
 use Rattle.texts.specs.Texts.{Reading}
 use Rattle.lists.specs.Lines.{Sides, Declared, judge_lines, head_of_line, judge_forms, judge_rules, with_forms, judge_header, table_of_line, judge_table}
 use Rattle.texts.proofs.Answering.{err_not_ok, same_ok}

@@ -5,7 +5,7 @@ use Rattle.std.proofs.ByRecursion.{all-has, all_has_itself}
 use Rattle.std.proofs.lemmas.List.{get_or_default}
 use Rattle.std.proofs.lemmas.Bool.{and_parts, and_from, eq-eqb, eqb-true, both_ways, not-true, false≢true}
 use Rattle.terms.specs.Words.{node_of}
-use Rattle.lists.specs.Sides.{every, any, is_variable, holds, repeated, once_each, bound}
+use Rattle.lists.specs.Sides.{every, is_variable, holds, repeated, once_each, bound}
 use Rattle.lists.specs.Laws.{OncePlaced, FromLeft}
 use Rattle.lists.proofs.Quantified.{all_if_every, every_if_all, all_by, has_if_any, any_if_has}
 

@@ -1,5 +1,5 @@
 -- The shape of the two sides: the tests as statements, both ways.
-use Rattle.std.proofs.Common.{◌≡◌, ℕ, ◌+◌, ◌<◌, true, false, ◌&&◌, ◌||◌, eqb, leb, List, [], ◌∷◌, length, is_ok, Some, None, Ok, Err, Option, Result, sym, refl, ap, ◌∙◌, subst, arith}
+use Rattle.std.proofs.Common.{◌≡◌, ℕ, ◌<◌, true, false, ◌&&◌, ◌||◌, eqb, leb, List, [], ◌∷◌, length, is_ok, Some, None, Ok, Err, Option, Result, sym, refl, ap, ◌∙◌, subst, arith}
 use Rattle.std.specs.List.{AllByRecursion as All}
 use Rattle.std.proofs.lemmas.Bool.{and_parts, and_from, eqb-true, eq-eqb, leb-true, false≢true, or_right}
 use Rattle.terms.specs.declared.words.Node.{Node}
@@ -12,8 +12,7 @@ use Rattle.terms.specs.Laws.{Whole}
 use Rattle.terms.proofs.Nodes.{node_atom, node_variable, node_body, node_head, node_form, Stands, stands}
 use Rattle.terms.proofs.Verdicts.{whole_means}
 use Rattle.lists.specs.declared.parts.Form as declared
-use Rattle.lists.specs.Lines.{Sides}
-use Rattle.lists.specs.Sides.{every, any, is_atom, is_variable, is_lower_form, is_argument, on_right, form_word, left_shaped, right_shaped, shaped}
+use Rattle.lists.specs.Sides.{every, any, is_atom, is_variable, is_lower_form, is_argument, on_right, form_word, left_shaped, right_shaped}
 use Rattle.lists.specs.Laws.{LeftSide, RightSide}
 use Rattle.lists.proofs.Quantified.{all_if_every, every_if_all, all_by, has_if_any, any_if_has}
 

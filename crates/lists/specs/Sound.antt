@@ -1,7 +1,7 @@
 -- What every list keeps, as tests.
 use Rattle.std.specs.Prelude.{ℕ, Bool, true, not, ◌&&◌, List, [], ◌∷◌, ◌++◌, nat_le, nat_lt}
 use Rattle.lists.specs.declared.parts.Form.{Form}
-use Rattle.lists.specs.Lines.{Sides, within, owned}
+use Rattle.lists.specs.Lines.{Sides, owned}
 use Rattle.lists.specs.Sides.{every, any, shaped, linear, overlapping, is_for}
 
 -- each label is owned by layer k and higher than the one before, and each count is at most 8

@@ -2,7 +2,6 @@
 use Rattle.std.proofs.Common.{◌≡◌, ℕ, ◌≤◌, true, false, cond, List, [], ◌++◌, length, sym, refl, ap, ◌∙◌, subst}
 use Rattle.std.proofs.lemmas.List.{append-nil}
 use Rattle.terms.specs.Trees.{Tree, written, WellFormed}
-use Rattle.languages.specs.declared.answers.Stepped.TheVariants.{Stuck}
 use Rattle.languages.specs.Meaning.{moved, ended, stuck}
 use Rattle.languages.proofs.Asked.{apart}
 use Rattle.steppers.specs.declared.action.Made.{Made}

@@ -1,8 +1,8 @@
 -- The pieces of a text whose first separator is known.
-use Rattle.std.proofs.Common.{◌≡◌, ℕ, zero, suc, ◌+◌, ◌<◌, Bool, true, false, eqb, List, [], ◌∷◌, ◌++◌, length, get_or, take, drop, Some, refl, ap, ◌∙◌, arith, length-append}
+use Rattle.std.proofs.Common.{◌≡◌, ℕ, zero, suc, ◌<◌, Bool, true, false, eqb, List, [], ◌∷◌, ◌++◌, length, get_or, take, drop, Some, refl, ap, ◌∙◌, arith, length-append}
 use Rattle.std.proofs.lemmas.Bool.{eq-eqb, ne_eqb}
 use Rattle.texts.specs.declared.text.Piece.{Piece}
-use Rattle.texts.specs.Texts.{pieces, grown, lines_of, lines, reading, readings}
+use Rattle.texts.specs.Texts.{pieces, grown, lines_of, lines, readings}
 use Rattle.texts.specs.Pieces.{FirstPiece, NextLine}
 
 pub parted : (sep b : ℕ) (bs : List ℕ) → b ≡ sep → pieces sep (b ∷ bs) ≡ [] ∷ pieces sep bs

@@ -1,4 +1,4 @@
-use Rattle.std.proofs.Common.{sym, ap, ◌∙◌, arith}
+use Rattle.std.proofs.Common.{sym, ◌∙◌, arith}
 use native.Mathlib.Nat.{sub-zero}
 use Rattle.lists.proofs.Faulting.{overlap_here, no_overlap, overlaps_end}
 use Rattle.lists.proofs.faults.overlap_fault.Goals as goal

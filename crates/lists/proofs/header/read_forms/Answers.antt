@@ -1,7 +1,6 @@
-use Rattle.std.proofs.Common.{◌+◌, ◌-◌, List, length, vec_items, sym, refl, ap, ◌∙◌, inr, arith}
+use Rattle.std.proofs.Common.{◌+◌, ◌-◌, length, vec_items, sym, refl, ap, ◌∙◌, inr, arith}
 use native.Mathlib.Nat.{sub-zero}
 use Rattle.std.proofs.lemmas.List.{length_push}
-use Rattle.lists.specs.declared.parts.Form.{Form}
 use Rattle.texts.specs.Texts.{readings}
 use Rattle.texts.specs.Pieces.{line_says}
 use Rattle.lists.specs.Lines.{judge_forms, last_label, form_of_line}

@@ -1,4 +1,4 @@
-use Rattle.std.proofs.Common.{◌+◌, ◌-◌, List, map, length, vec_items, sym, refl, ap, ◌∙◌, inr, arith}
+use Rattle.std.proofs.Common.{◌+◌, ◌-◌, map, length, vec_items, sym, refl, ap, ◌∙◌, inr, arith}
 use native.Mathlib.Nat.{sub-zero}
 use Rattle.std.specs.Option.{option_map}
 use Rattle.std.proofs.lemmas.List.{length_push, map_push}

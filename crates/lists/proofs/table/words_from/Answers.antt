@@ -1,4 +1,4 @@
-use Rattle.std.proofs.Common.{List, length, drop, Some, vec_items, sym, ap, ◌∙◌, arith}
+use Rattle.std.proofs.Common.{length, drop, vec_items, sym, ap, ◌∙◌, arith}
 use Rattle.std.proofs.lemmas.List.{take_rest}
 use Rattle.std.proofs.lemmas.Bool.{eqb-true, eqb-false}
 use Rattle.lists.specs.Lines.{words_of}
