@@ -2,9 +2,9 @@
 
 #![tactic(auto)]
 
+mod list_texts;
 mod runs;
 mod steps;
-mod texts;
 
 use lists::list::RuleList;
 use std::io;
@@ -51,8 +51,8 @@ fn measure_end(rt: &HostRuntime, kind: &str, words: &mut Vec<u32>) -> io::Result
 
 fn measure_accept(rt: &HostRuntime) -> io::Result<()> {
     let heap = rt.alloc();
-    let header = texts::HEADER.as_bytes();
-    let table = texts::table(heap)?;
+    let header = list_texts::HEADER.as_bytes();
+    let table = list_texts::table(heap)?;
     let mut place = RuleList::new(heap);
     let mut accepted: u32 = 0;
     let start = Instant::now(rt)?;

@@ -1,6 +1,6 @@
 -- Words that all are variables and atoms, the trees that they are read as, and the variables that stand in trees.
 use Rattle.std.proofs.Common.{◌≡◌, ℕ, zero, suc, ◌<◌, Bool, true, false, ◌||◌, eqb, List, [], ◌∷◌, ◌++◌, length, get_or, Some, None, Option, sym, refl, ap, ◌∙◌, subst, ⊎_elim, arith}
-use Rattle.std.specs.List.{ContainsAt as Has, AllByRecursion as All}
+use Rattle.std.specs.List.{ContainsAt, AllByRecursion}
 use Rattle.std.proofs.ByRecursion.{has_append_left, has_append_right}
 use Rattle.std.proofs.lemmas.Bool.{eqb-true, eq-eqb, or_cases, or_left, or_right}
 use Rattle.terms.specs.declared.words.Node.{Node}
@@ -78,7 +78,7 @@ read_leaf w ws ts (Some (Head k r d)) n s h e i l = apart (cc)
 read_leaf w ws ts (Some (Form m c)) n s h e i l = apart (cc)
 
 -- a run of arguments is read as leaves
-pub read-arguments : (ws : List ℕ) → All (λ w. is_argument w ≡ true) ws → ReadAs ws
+pub read-arguments : (ws : List ℕ) → AllByRecursion (λ w. is_argument w ≡ true) ws → ReadAs ws
 unfolding read
 read-arguments [] a = (none, refl, refl, tt)
 read-arguments (w ∷ ws) a =
@@ -86,14 +86,14 @@ read-arguments (w ∷ ws) a =
     read_leaf w ws r.0 (node_of w) refl (stands-for w) a.0 r.1 r.2 r.3
 
 -- what stands among the words stands behind one more
-pub has-behind : (x : ℕ) (xs : List ℕ) (w : ℕ) → Has xs w → Has (x ∷ xs) w
+pub has-behind : (x : ℕ) (xs : List ℕ) (w : ℕ) → ContainsAt xs w → ContainsAt (x ∷ xs) w
 has-behind x xs w h = (suc h.0, omega (arith, h.1), λ d. h.2 d)
 
 -- the word of a variable that stands in a tree is among its words
 mutual
   unfolding stands stands_any written written_all
 
-  pub stands-written : (n : ℕ) (t : Tree) → stands n t ≡ true → Has (written t) (word 2 n)
+  pub stands-written : (n : ℕ) (t : Tree) → stands n t ≡ true → ContainsAt (written t) (word 2 n)
   stands-written n (atom v) e = apart (cc)
   stands-written n (variable m) e = (0, omega arith, λ d. ap (word 2) (eqb-true m n e))
   stands-written n (body k t) e = has-behind (word 3 k) (written t) (word 2 n) (stands-written n t e)
@@ -102,7 +102,7 @@ mutual
       (⊎_elim (λ h. has_append_left (written_all ds) (written t) (word 2 n) (stands_all_written n ds h)) (λ h. has_append_right (written_all ds) (written t) (word 2 n) (stands-written n t h)) (or_cases (stands_any n ds) (stands n t) e))
   stands-written n (form l ts) e = has-behind (word l (count ts)) (written_all ts) (word 2 n) (stands_all_written n ts e)
 
-  pub stands_all_written : (n : ℕ) (ts : Trees) → stands_any n ts ≡ true → Has (written_all ts) (word 2 n)
+  pub stands_all_written : (n : ℕ) (ts : Trees) → stands_any n ts ≡ true → ContainsAt (written_all ts) (word 2 n)
   stands_all_written n none e = apart (cc)
   stands_all_written n (more t ts) e =
       ⊎_elim (λ h. has_append_left (written t) (written_all ts) (word 2 n) (stands-written n t h)) (λ h. has_append_right (written t) (written_all ts) (word 2 n) (stands_all_written n ts h)) (or_cases (stands n t) (stands_any n ts) e)
@@ -137,7 +137,7 @@ arguments_of (more (variable n) ts) l o = (l.0, lone (stands_any n ts) refl, arg
     lone : (b : Bool) → stands_any n ts ≡ b → b ≡ false
     lone false e = refl
     lone true e =
-        let H : List ℕ → Type 0 = λ ws. Has ws (word 2 n) in
+        let H : List ℕ → Type 0 = λ ws. ContainsAt ws (word 2 n) in
         let h = subst H (leaves_written ts l.1) (stands_all_written n ts e) in
         absurd (o 0 (suc h.0) (omega arith) (omega (arith, h.1)) (variable-word n l.0) (sym (h.2 0)))
 arguments_of (more (body k t) ts) l o = absurd l.0

@@ -1,6 +1,6 @@
 -- The right side of an accepted rule: lower forms, atoms, and each variable once.
 use Rattle.std.proofs.Common.{◌≡◌, ℕ, ◌+◌, ◌*◌, ◌<◌, Bool, true, false, ◌||◌, leb, List, [], ◌∷◌, ◌++◌, length, get_or, Some, Option, sym, refl, ap, ◌∙◌, subst, ⊎_elim, arith}
-use Rattle.std.specs.List.{ContainsAt as Has, AllByRecursion as All}
+use Rattle.std.specs.List.{ContainsAt, AllByRecursion}
 use Rattle.std.proofs.lemmas.List.{length-append, get_or_append_left, get_or-append-add}
 use Rattle.std.proofs.lemmas.Bool.{eqb-true, or_cases, and_parts, leb-true, ltb-true, false≢true}
 use Rattle.terms.specs.declared.words.Node.{Node}
@@ -16,7 +16,7 @@ use Rattle.expansion.specs.Laws.{Right, RightAll}
 use Rattle.expansion.proofs.Leaves.{stands-written, stands_all_written, once-behind, variable-word}
 
 -- what holds of each word of two runs holds of each word of both
-all_parts : (P : ℕ → Type 0) (xs ys : List ℕ) → All P (xs ++ ys) → All P xs × All P ys
+all_parts : (P : ℕ → Type 0) (xs ys : List ℕ) → AllByRecursion P (xs ++ ys) → AllByRecursion P xs × AllByRecursion P ys
 all_parts P [] ys a = (tt, a)
 all_parts P (x ∷ xs) ys a = let r = all_parts P xs ys a.1 in ((a.0, r.0), r.1)
 
@@ -33,7 +33,7 @@ once-right [] ys o = o
 once-right (x ∷ xs) ys o = once-right xs ys (once-behind x (xs ++ ys) o)
 
 -- no variable stands in both
-once-apart : (xs ys : List ℕ) (n : ℕ) → n < 8 → OncePlaced (xs ++ ys) → Has xs (word 2 n) → Has ys (word 2 n) → ⊥
+once-apart : (xs ys : List ℕ) (n : ℕ) → n < 8 → OncePlaced (xs ++ ys) → ContainsAt xs (word 2 n) → ContainsAt ys (word 2 n) → ⊥
 once-apart xs ys n h o x y =
     let a : get_or (xs ++ ys) x.0 0 ≡ word 2 n = get_or_append_left xs ys 0 x.0 x.1 ∙ x.2 0 in
     let b : get_or (xs ++ ys) (length xs + y.0) 0 ≡ word 2 n = get_or-append-add xs ys y.0 0 ∙ y.2 0 in
@@ -63,7 +63,7 @@ module _ (k : ℕ) where
   mutual
     unfolding Right RightAll written written_all WellMade WellMadeAll
 
-    pub right_made : (t : Tree) → WellMade t true → All (λ w. on_right k w ≡ true) (written t) → OncePlaced (written t) → Right k t
+    pub right_made : (t : Tree) → WellMade t true → AllByRecursion (λ w. on_right k w ≡ true) (written t) → OncePlaced (written t) → Right k t
     right_made (atom v) m a o = m
     right_made (variable n) m a o = m.1
     right_made (body j t) m a o = absurd (false≢true (right-word (word 3 j) (Some (Body j)) (node_body j m.0) a.0))
@@ -73,7 +73,7 @@ module _ (k : ℕ) where
         let high = ltb-true l (32 + 32 * k) (right-word (word l (count ts)) (Some (Form l (count ts))) (node_form l (count ts) m.0 m.1) a.0) in
         (low, high, m.1, rights_made ts m.2 a.1 (once-behind (word l (count ts)) (written_all ts) o))
 
-    rights_made : (ts : Trees) → WellMadeAll ts true → All (λ w. on_right k w ≡ true) (written_all ts) → OncePlaced (written_all ts) → RightAll k ts
+    rights_made : (ts : Trees) → WellMadeAll ts true → AllByRecursion (λ w. on_right k w ≡ true) (written_all ts) → OncePlaced (written_all ts) → RightAll k ts
     rights_made none m a o = tt
     rights_made (more t ts) m a o =
         let p = all_parts (λ w. on_right k w ≡ true) (written t) (written_all ts) a in

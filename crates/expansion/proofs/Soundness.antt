@@ -1,6 +1,6 @@
 -- The rules of a proper list are sound.
 use Rattle.std.proofs.Common.{◌≡◌, ℕ, zero, suc, ◌+◌, ◌*◌, ◌/◌, ◌<◌, ◌≤◌, true, false, eqb, leb, List, [], ◌∷◌, map, length, get_or, Some, None, Option, sym, refl, ap, ◌∙◌, subst, ⊎_elim, arith}
-use Rattle.std.specs.List.{ContainsAt as Has, AllByRecursion as All}
+use Rattle.std.specs.List.{ContainsAt, AllByRecursion}
 use Rattle.std.proofs.lemmas.List.{length-map}
 use Rattle.std.proofs.ByRecursion.{all-has, All-get_or}
 use Rattle.std.proofs.lemmas.Bool.{eqb-true, eq-eqb, and_parts, and_from, and_left, and_right, not_from_true, le-leb, cases_order}
@@ -27,7 +27,7 @@ abbrev Owned : ℕ → Form → Type 0
 Owned k f = (32 + 32 * k ≤ f.label) × (f.label ≤ 63 + 32 * k) × (f.count ≤ 8)
 
 -- so it is with every declared form
-forms-owned : (k before : ℕ) (forms : List Form) → Rising k before forms → All (Owned k) forms
+forms-owned : (k before : ℕ) (forms : List Form) → Rising k before forms → AllByRecursion (Owned k) forms
 forms-owned k before [] r = tt
 forms-owned k before (f ∷ fs) r = ((r.0, r.1, r.3), forms-owned k f.label fs r.4)
 
@@ -43,7 +43,7 @@ pub record Spells (k : ℕ) (s : Sides) (rule : Rule) : Type 0 where
   pub root : (l : ℕ) × (ts : Trees) × (rule.right ≡ form l ts)
   pub made : WellMade rule.right true
   pub right_is : s.right ≡ written rule.right
-  pub all_right : All (λ w. on_right k w ≡ true) s.right
+  pub all_right : AllByRecursion (λ w. on_right k w ≡ true) s.right
 
 -- the trees that words are read as
 trees_read : (ws : List ℕ) (ts : Trees) → read ws ≡ Some ts → trees_of ws ≡ ts
@@ -93,7 +93,7 @@ rule_sound k s rule p left-once right-once from =
   where
     right : Right k rule.right
     right =
-        let A : List ℕ → Type 0 = All (λ w. on_right k w ≡ true) in
+        let A : List ℕ → Type 0 = AllByRecursion (λ w. on_right k w ≡ true) in
         right_made k rule.right p.made (subst A p.right_is p.all_right) (subst OncePlaced p.right_is right-once)
 
     among : (n : ℕ) → n < 8 → (i : ℕ) → i < suc (length (words rule.arguments)) → get_or (word rule.label p.size ∷ words rule.arguments) i 0 ≡ word 2 n → stands_any n rule.arguments ≡ true
@@ -102,7 +102,7 @@ rule_sound k s rule p left-once right-once from =
 
     on_left : (n : ℕ) → n < 8 → stands n rule.right ≡ true → stands_any n rule.arguments ≡ true
     on_left n h e =
-        let H : List ℕ → Type 0 = λ ws. Has ws (word 2 n) in
+        let H : List ℕ → Type 0 = λ ws. ContainsAt ws (word 2 n) in
         let there = from (word 2 n) (subst H (sym p.right_is) (stands-written n rule.right e)) (variable-word n h) in
         let here = subst H p.left_is there in
         among n h here.0 here.1 (here.2 0)

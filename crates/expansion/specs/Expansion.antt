@@ -33,12 +33,12 @@ unfoldable mutual
 
 -- An owned form becomes a head mark that drops the trees of variables missing on the right, unexpanded; its inside is the right side, filled in with expanded trees.
 abbrev pub taken : ℕ → Trees → Trees → Numbered → Tree
-taken k ts expandedTs m =
-    head k m.number (dropped m.rule.right m.rule.arguments ts) (instance k m.rule.arguments expandedTs m.rule.right)
+taken k ts expanded_ts m =
+    head k m.number (dropped m.rule.right m.rule.arguments ts) (instance k m.rule.arguments expanded_ts m.rule.right)
 
 abbrev pub taken_if : ℕ → ℕ → Trees → Trees → Option Numbered → Tree
-taken_if k l ts expandedTs None = form l ts
-taken_if k l ts expandedTs (Some m) = taken k ts expandedTs m
+taken_if k l ts expanded_ts None = form l ts
+taken_if k l ts expanded_ts (Some m) = taken k ts expanded_ts m
 
 -- expansion at layer k: atoms stay, marks stay with their dropped terms, a form that k does not own stays, an owned form takes the rule that matches
 unfoldable mutual
@@ -78,8 +78,8 @@ unfoldable mutual
 
 -- plain expansion of a term without marks
 abbrev pub plain_taken_if : ℕ → Trees → Trees → Option Numbered → Tree
-plain_taken_if l ts plainTs None = form l ts
-plain_taken_if l ts plainTs (Some m) = plain_instance m.rule.arguments plainTs m.rule.right
+plain_taken_if l ts plain_ts None = form l ts
+plain_taken_if l ts plain_ts (Some m) = plain_instance m.rule.arguments plain_ts m.rule.right
 
 unfoldable mutual
   pub plain : ℕ → List Rule → Tree → Tree

@@ -1,6 +1,6 @@
 -- Left sides that overlap, and rules of which no two do: the tests as statements, both ways.
 use Rattle.std.proofs.Common.{◌≡◌, ℕ, zero, suc, ◌<◌, Bool, true, false, not, eqb, List, [], ◌∷◌, ◌++◌, length, get_or, sym, refl, ap, ◌∙◌, subst, ⊎_elim, arith}
-use Rattle.std.specs.List.{ContainsAt as Has, AllByRecursion as All}
+use Rattle.std.specs.List.{ContainsAt, AllByRecursion}
 use Rattle.std.proofs.ByRecursion.{has_append_left, has_push, has_push_cases}
 use Rattle.std.proofs.lemmas.Bool.{and_parts, and_from, eq-eqb, eqb-true, both_ways, not-true, not_from_false, false≢true}
 use Rattle.lists.specs.declared.parts.Form.{Form}
@@ -42,12 +42,12 @@ if_overlaps left other o =
 
 -- no rule of the first list overlaps one of the second
 Cross : List Sides → List Sides → Type 0
-Cross earlier ss = (e : Sides) (j : ℕ) (d : Sides) → Has earlier e → j < length ss → overlapping e.left (get_or ss j d).left ≡ false
+Cross earlier ss = (e : Sides) (j : ℕ) (d : Sides) → ContainsAt earlier e → j < length ss → overlapping e.left (get_or ss j d).left ≡ false
 
 Pairs : List Sides → Type 0
 Pairs ss = (i j : ℕ) (d : Sides) → i < j → j < length ss → overlapping (get_or ss i d).left (get_or ss j d).left ≡ false
 
-none_first : (earlier : List Sides) (s e : Sides) → overlaps_some earlier s ≡ false → Has earlier e → overlapping e.left s.left ≡ false
+none_first : (earlier : List Sides) (s e : Sides) → overlaps_some earlier s ≡ false → ContainsAt earlier e → overlapping e.left s.left ≡ false
 none_first earlier s e not_some has = by (overlapping e.left s.left) refl
   where
     by : (t : Bool) → overlapping e.left s.left ≡ t → t ≡ false
@@ -102,10 +102,10 @@ for_form : (f : Form) (s : Sides) (left : List ℕ) → left ≡ s.left → elim
 for_form f s [] is e = absurd (false≢true e)
 for_form f s (w ∷ ws) is e = (ws, sym is ∙ ap (λ x. x ∷ ws) (sym (eqb-true (form_word f) w e)))
 
-pub ruled_if : (forms : List Form) (rules : List Sides) → all_ruled forms rules ≡ true → All (HasRule rules) forms
+pub ruled_if : (forms : List Form) (rules : List Sides) → all_ruled forms rules ≡ true → AllByRecursion (HasRule rules) forms
 ruled_if forms rules e = all_by (λ f is. let r = has_if_any (is_for f) rules is in let a = for_form f r.0 r.0.left refl r.2 in (r.0, a.0, r.1, a.1)) forms (all_if_every (λ f. any (is_for f) rules) forms e)
 
-pub if_ruled : (forms : List Form) (rules : List Sides) → All (HasRule rules) forms → all_ruled forms rules ≡ true
+pub if_ruled : (forms : List Form) (rules : List Sides) → AllByRecursion (HasRule rules) forms → all_ruled forms rules ≡ true
 if_ruled forms rules a =
     every_if_all (λ f. any (is_for f) rules) forms
     (all_by (λ f h. any_if_has (is_for f) rules h.0 h.2 (ap (λ left. elim left [ [] ↦ false | w ∷ ws ↦ eqb (form_word f) w ]) h.3 ∙ eq-eqb (form_word f) (form_word f) refl)) forms a)

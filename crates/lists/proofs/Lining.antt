@@ -4,7 +4,7 @@ use Rattle.texts.specs.declared.text.Line.{Line}
 use Rattle.texts.specs.declared.text.Line.TheVariants as line
 use Rattle.texts.specs.declared.text.Word.{Word}
 use Rattle.texts.specs.declared.text.Word.TheVariants as word
-use Rattle.texts.specs.Texts.{Reading, numbers, pieces, numbered, head-line, form-line, table_line, rule-line, broken_line}
+use Rattle.texts.specs.Texts.{Reading, numbers, pieces, numbered, head_line, form_line, table_line, rule_line, broken_line}
 use Rattle.texts.specs.Pieces.{line_means, fields_of}
 use Rattle.lists.specs.Lines.{numbers_of, and_then}
 
@@ -27,25 +27,25 @@ given-none kind w none_here no-here f = by (numbers (pieces 44 f))
 
 pub line-numbers : (w : Word) (o : Option Line) → numbers_of w (line_means o) ≡ and_then (fields_of w o) (λ f. numbers (pieces 44 f))
 line-numbers word.Head None = refl
-line-numbers word.Head (Some (line.Head f)) = given_back (λ ns. head-line ns) word.Head (λ ns. refl) refl f.now
-line-numbers word.Head (Some (line.Form f)) = given-none (λ ns. form-line ns) word.Head (λ ns. refl) refl f.now
+line-numbers word.Head (Some (line.Head f)) = given_back (λ ns. head_line ns) word.Head (λ ns. refl) refl f.now
+line-numbers word.Head (Some (line.Form f)) = given-none (λ ns. form_line ns) word.Head (λ ns. refl) refl f.now
 line-numbers word.Head (Some (line.Table f)) = given-none (λ ns. table_line ns) word.Head (λ ns. refl) refl f.now
-line-numbers word.Head (Some (line.Rule f)) = given-none (λ ns. rule-line ns) word.Head (λ ns. refl) refl f.now
+line-numbers word.Head (Some (line.Rule f)) = given-none (λ ns. rule_line ns) word.Head (λ ns. refl) refl f.now
 line-numbers word.Form None = refl
-line-numbers word.Form (Some (line.Head f)) = given-none (λ ns. head-line ns) word.Form (λ ns. refl) refl f.now
-line-numbers word.Form (Some (line.Form f)) = given_back (λ ns. form-line ns) word.Form (λ ns. refl) refl f.now
+line-numbers word.Form (Some (line.Head f)) = given-none (λ ns. head_line ns) word.Form (λ ns. refl) refl f.now
+line-numbers word.Form (Some (line.Form f)) = given_back (λ ns. form_line ns) word.Form (λ ns. refl) refl f.now
 line-numbers word.Form (Some (line.Table f)) = given-none (λ ns. table_line ns) word.Form (λ ns. refl) refl f.now
-line-numbers word.Form (Some (line.Rule f)) = given-none (λ ns. rule-line ns) word.Form (λ ns. refl) refl f.now
+line-numbers word.Form (Some (line.Rule f)) = given-none (λ ns. rule_line ns) word.Form (λ ns. refl) refl f.now
 line-numbers word.Table None = refl
-line-numbers word.Table (Some (line.Head f)) = given-none (λ ns. head-line ns) word.Table (λ ns. refl) refl f.now
-line-numbers word.Table (Some (line.Form f)) = given-none (λ ns. form-line ns) word.Table (λ ns. refl) refl f.now
+line-numbers word.Table (Some (line.Head f)) = given-none (λ ns. head_line ns) word.Table (λ ns. refl) refl f.now
+line-numbers word.Table (Some (line.Form f)) = given-none (λ ns. form_line ns) word.Table (λ ns. refl) refl f.now
 line-numbers word.Table (Some (line.Table f)) = given_back (λ ns. table_line ns) word.Table (λ ns. refl) refl f.now
-line-numbers word.Table (Some (line.Rule f)) = given-none (λ ns. rule-line ns) word.Table (λ ns. refl) refl f.now
+line-numbers word.Table (Some (line.Rule f)) = given-none (λ ns. rule_line ns) word.Table (λ ns. refl) refl f.now
 line-numbers word.Rule None = refl
-line-numbers word.Rule (Some (line.Head f)) = given-none (λ ns. head-line ns) word.Rule (λ ns. refl) refl f.now
-line-numbers word.Rule (Some (line.Form f)) = given-none (λ ns. form-line ns) word.Rule (λ ns. refl) refl f.now
+line-numbers word.Rule (Some (line.Head f)) = given-none (λ ns. head_line ns) word.Rule (λ ns. refl) refl f.now
+line-numbers word.Rule (Some (line.Form f)) = given-none (λ ns. form_line ns) word.Rule (λ ns. refl) refl f.now
 line-numbers word.Rule (Some (line.Table f)) = given-none (λ ns. table_line ns) word.Rule (λ ns. refl) refl f.now
-line-numbers word.Rule (Some (line.Rule f)) = given_back (λ ns. rule-line ns) word.Rule (λ ns. refl) refl f.now
+line-numbers word.Rule (Some (line.Rule f)) = given_back (λ ns. rule_line ns) word.Rule (λ ns. refl) refl f.now
 
 -- the same of a line that was looked at
 pub line-has : (w : Word) (o : Option Line) (says : Reading) (p : Option (List ℕ)) → line_means o ≡ says → p ≡ fields_of w o → numbers_of w says ≡ and_then p (λ f. numbers (pieces 44 f))

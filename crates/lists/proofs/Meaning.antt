@@ -1,14 +1,14 @@
 -- What acceptance means: accepted lists are proper and spelled by the texts, and proper lists that are spelled are accepted.
 use Rattle.std.proofs.Common.{◌≡◌, ℕ, suc, ◌<◌, ◌≤◌, Bool, true, false, ◌&&◌, leb, List, [], ◌∷◌, map, length, Some, None, Ok, Err, Option, Result, sym, refl, ap, ◌∙◌, subst, inl, inr, ⊎_elim, arith}
 use Rattle.std.specs.Result.{result_map_both}
-use Rattle.std.specs.List.{AllByRecursion as All}
+use Rattle.std.specs.List.{AllByRecursion}
 use Rattle.std.proofs.ByRecursion.{all-has}
 use Rattle.std.proofs.lemmas.Bool.{and_parts, and_from, leb-true, le-leb, false≢true}
 use Rattle.lists.specs.declared.parts.Form.{Form}
 use Rattle.lists.specs.declared.parts.Head.{Head}
 use Rattle.lists.specs.declared.refusal.Refusal.{Refusal}
 use Rattle.lists.specs.declared.refusal.Refusal.TheVariants.{TextTooLong}
-use Rattle.texts.specs.Texts.{readings, head-line, table_line}
+use Rattle.texts.specs.Texts.{readings, head_line, table_line}
 use Rattle.texts.specs.Laws.{Unbroken}
 use Rattle.texts.proofs.Spelt.{read_if_spelled, spelled_if_read}
 use Rattle.lists.specs.Lines.{Sides, Declared, Answers, within, with_forms, judge_header, judge_table}
@@ -72,7 +72,7 @@ range n low high a b = and_from (leb low n) (leb n high) (le-leb low n a) (le-le
 record HeaderSaid (header : List ℕ) (l : Listed) : Type 0 where
   pub says : readings header ≡ header_says l
   pub layer : (1 ≤ l.layer) × (l.layer ≤ 6)
-  pub form_count_lem : (1 ≤ length l.forms) × (length l.forms ≤ 32)
+  pub form_count : (1 ≤ length l.forms) × (length l.forms ≤ 32)
   pub rule_count : (1 ≤ length l.rules) × (length l.rules ≤ 32)
   pub rising_forms : rising l.layer l.forms ≡ true
 
@@ -84,15 +84,15 @@ header_said header l h e layer rules =
     let count = ap length lines.1 ∙ lines.2 in
     let are = forms_rise h.layer [] lines.0 read.rest lines.3 in
     record {
-      says = read.lines ∙ (λ i. head.0 i ∷ (are.0 ∙ ap (map form_says) (sym lines.1)) i) ∙ (λ i. head-line (layer i ∷ sym count i ∷ rules i ∷ []) ∷ map form_says l.forms);
+      says = read.lines ∙ (λ i. head.0 i ∷ (are.0 ∙ ap (map form_says) (sym lines.1)) i) ∙ (λ i. head_line (layer i ∷ sym count i ∷ rules i ∷ []) ∷ map form_says l.forms);
       layer = subst (λ n. (1 ≤ n) × (n ≤ 6)) layer (in_range h.layer 1 6 head.1.0);
-      form_count_lem = subst (λ n. (1 ≤ n) × (n ≤ 32)) (sym count) (in_range h.forms 1 32 head.1.1);
+      form_count = subst (λ n. (1 ≤ n) × (n ≤ 32)) (sym count) (in_range h.forms 1 32 head.1.1);
       rule_count = subst (λ n. (1 ≤ n) × (n ≤ 32)) rules (in_range h.rules 1 32 head.1.2);
       rising_forms = (λ i. rising (sym layer i) (lines.1 i)) ∙ are.1;
     }
 
 -- what the table of an accepted list says
-table_said_lem : (table : List ℕ) (l : Listed) (h : Head) → judge_table h (readings table) ≡ Ok l.rules → h.layer ≡ l.layer → (readings table ≡ table_says l) × All Sized l.rules × (h.rules ≡ length l.rules)
+table_said_lem : (table : List ℕ) (l : Listed) (h : Head) → judge_table h (readings table) ≡ Ok l.rules → h.layer ≡ l.layer → (readings table ≡ table_says l) × AllByRecursion Sized l.rules × (h.rules ≡ length l.rules)
 table_said_lem table l h e layer =
     let read = table_read h (readings table) l.rules e in
     let first = table_says_lem read.first h.layer h.rules read.head in
@@ -100,7 +100,7 @@ table_said_lem table l h e layer =
     let count = sym (ap length lines.1 ∙ lines.2) in
     let are = rules-said [] lines.0 read.rest lines.3 in (
       read.lines ∙ (λ i. first i ∷ (are.0 ∙ ap (rules_say 0) (sym lines.1)) i) ∙ (λ i. table_line (layer i ∷ count i ∷ []) ∷ rules_say 0 l.rules),
-      subst (All Sized) (sym lines.1) are.1,
+      subst (AllByRecursion Sized) (sym lines.1) are.1,
       count,
     )
 
@@ -116,13 +116,13 @@ variables_proper s e =
     let q = and_parts (once_each s.left) (once_each s.right) p.0 in
     ((placed_once s.left q.0, placed_once s.right q.1), bound_from_left s.left s.right p.1)
 
-proper : (header : List ℕ) (l : Listed) → HeaderSaid header l → All Sized l.rules → Faultless l → Proper l
+proper : (header : List ℕ) (l : Listed) → HeaderSaid header l → AllByRecursion Sized l.rules → Faultless l → Proper l
 proper header l h sizes f =
     let sides = all_by (sides_proper l.layer l.forms) l.rules (all_if_every (shaped l.layer l.forms) l.rules f.shaped) in
     let variables = all_by variables_proper l.rules (all_if_every linear l.rules f.linear) in
     record {
       layer = h.layer;
-      form_count_lem = h.form_count_lem;
+      form_count = h.form_count;
       rule_count = h.rule_count;
       forms = rise l.layer 0 l.forms h.rising_forms;
       sizes = all_by (λ s p. (p.1, p.3)) l.rules sizes;
@@ -158,26 +158,26 @@ right-some : (k : ℕ) (right : List ℕ) → right_shaped k right ≡ true → 
 right-some k [] e = absurd (false≢true e)
 right-some k (w ∷ ws) e = omega arith
 
-left-small : (k : ℕ) (forms : List Form) (left : List ℕ) → k ≤ 6 → rising k forms ≡ true → LeftSide forms left → All (λ w. w < 4294967296) left
+left-small : (k : ℕ) (forms : List Form) (left : List ℕ) → k ≤ 6 → rising k forms ≡ true → LeftSide forms left → AllByRecursion (λ w. w < 4294967296) left
 left-small k forms left small r s =
     let word = all-has (λ f. form_word f < 4294967296) forms s.0 (form_words k 0 forms small (rise k 0 forms r)) s.2 in
-    subst (All (λ w. w < 4294967296)) (sym s.3) (word, arguments-small s.1 s.5)
+    subst (AllByRecursion (λ w. w < 4294967296)) (sym s.3) (word, arguments-small s.1 s.5)
 
 -- the tests that a proper list passes
 module _ (l : Listed) (p : Proper l) where
   rises : rising l.layer l.forms ≡ true
   rises = risen l.layer 0 l.forms p.forms
 
-  lefts-shaped : All (λ s. left_shaped l.forms s.left ≡ true) l.rules
+  lefts-shaped : AllByRecursion (λ s. left_shaped l.forms s.left ≡ true) l.rules
   lefts-shaped = all_by (λ s h. left-shaped l.forms s.left h) l.rules p.lefts
 
-  rights-shaped : All (λ s. right_shaped l.layer s.right ≡ true) l.rules
+  rights-shaped : AllByRecursion (λ s. right_shaped l.layer s.right ≡ true) l.rules
   rights-shaped = all_by (λ s h. right-shaped l.layer s.right h) l.rules p.rights
 
-  sized : All Sized l.rules
+  sized : AllByRecursion Sized l.rules
   sized = all_by₃ (λ s a b c. (left-some l.forms s.left a, c.0, right-some l.layer s.right b, c.1)) l.rules lefts-shaped rights-shaped p.sizes
 
-  in_words : All InWords l.rules
+  in_words : AllByRecursion InWords l.rules
   in_words = all_by₂ (λ s a b. (left-small l.layer l.forms s.left p.layer.1 rises a, rights-small l.layer s.right b.4)) l.rules p.lefts p.rights
 
   tests : Faultless l
@@ -194,7 +194,7 @@ module _ (l : Listed) (p : Proper l) where
   header_judged : (header : List ℕ) → readings header ≡ header_says l → judge_header (readings header) ≡ Ok (record { head = first; forms = l.forms })
   unfolding first
   header_judged header says =
-      header_is (readings header) _ _ says first (head-fits first (range l.layer 1 6 p.layer.0 p.layer.1, range (length l.forms) 1 32 p.form_count_lem.0 p.form_count_lem.1, range (length l.rules) 1 32 p.rule_count.0 p.rule_count.1))
+      header_is (readings header) _ _ says first (head-fits first (range l.layer 1 6 p.layer.0 p.layer.1, range (length l.forms) 1 32 p.form_count.0 p.form_count.1, range (length l.rules) 1 32 p.rule_count.0 p.rule_count.1))
       ∙ ap (with_forms first) (lines-judged _ _ [] l.forms (map form_says l.forms) (length l.forms) refl (rising-read l.layer [] l.forms rises))
 
   table_judged : (table : List ℕ) → readings table ≡ table_says l → judge_table first (readings table) ≡ Ok l.rules
@@ -211,11 +211,11 @@ accepted_if_said header table l s =
     ∙ ap (unless_fault l) (faultless l (tests l p))
 
 -- the lines that a list says are not broken
-forms_unbroken : (forms : List Form) → All Unbroken (map form_says forms)
+forms_unbroken : (forms : List Form) → AllByRecursion Unbroken (map form_says forms)
 forms_unbroken [] = tt
 forms_unbroken (f ∷ fs) = (tt, forms_unbroken fs)
 
-rules_unbroken : (i : ℕ) (rules : List Sides) → All Unbroken (rules_say i rules)
+rules_unbroken : (i : ℕ) (rules : List Sides) → AllByRecursion Unbroken (rules_say i rules)
 rules_unbroken i [] = tt
 rules_unbroken i (s ∷ ss) = (tt, rules_unbroken (suc i) ss)
 

@@ -1,6 +1,6 @@
 -- Variables that stand once, and on the right only if on the left: the tests as statements, both ways.
 use Rattle.std.proofs.Common.{◌≡◌, ℕ, zero, suc, ◌<◌, Bool, true, false, not, ◌||◌, eqb, List, [], ◌∷◌, length, get_or, sym, refl, ◌∙◌, arith}
-use Rattle.std.specs.List.{ContainsAt as Has}
+use Rattle.std.specs.List.{ContainsAt}
 use Rattle.std.proofs.ByRecursion.{all-has, all_has_itself}
 use Rattle.std.proofs.lemmas.List.{get_or_default}
 use Rattle.std.proofs.lemmas.Bool.{and_parts, and_from, eq-eqb, eqb-true, both_ways, not-true, false≢true}
@@ -9,16 +9,16 @@ use Rattle.lists.specs.Sides.{every, is_variable, holds, repeated, once_each, bo
 use Rattle.lists.specs.Laws.{OncePlaced, FromLeft}
 use Rattle.lists.proofs.Quantified.{all_if_every, every_if_all, all_by, has_if_any, any_if_has}
 
-pub holds_if_has : (ws : List ℕ) (w : ℕ) → Has ws w → holds ws w ≡ true
+pub holds_if_has : (ws : List ℕ) (w : ℕ) → ContainsAt ws w → holds ws w ≡ true
 holds_if_has ws w h = any_if_has (eqb w) ws w h (eq-eqb w w refl)
 
-pub has_if_holds : (ws : List ℕ) (w : ℕ) → holds ws w ≡ true → Has ws w
+pub has_if_holds : (ws : List ℕ) (w : ℕ) → holds ws w ≡ true → ContainsAt ws w
 has_if_holds ws w e =
     let r = has_if_any (eqb w) ws e in
     let same = eqb-true w r.0 r.2 in
     (r.1.0, r.1.1, λ d. r.1.2 d ∙ sym same)
 
-has_at : (ws : List ℕ) (j w : ℕ) → j < length ws → w ≡ get_or ws j 0 → Has ws w
+has_at : (ws : List ℕ) (j w : ℕ) → j < length ws → w ≡ get_or ws j 0 → ContainsAt ws w
 has_at ws j w l e = (j, l, λ d. get_or_default ws j d 0 l ∙ sym e)
 
 pub placed_once : (ws : List ℕ) → once_each ws ≡ true → OncePlaced ws
@@ -55,6 +55,6 @@ bound_from_left left right e w has v =
 pub from_left_bound : (left right : List ℕ) → FromLeft left right → every (bound left) right ≡ true
 from_left_bound left right p = every_if_all (bound left) right (all_by (λ w has. by w has (is_variable (node_of w)) refl) right (all_has_itself right))
   where
-    by : (w : ℕ) → Has right w → (t : Bool) → is_variable (node_of w) ≡ t → (not t || holds left w) ≡ true
+    by : (w : ℕ) → ContainsAt right w → (t : Bool) → is_variable (node_of w) ≡ t → (not t || holds left w) ≡ true
     by w has true v = holds_if_has left w (p w has v)
     by w has false v = refl

@@ -1,6 +1,6 @@
 -- Forms that are read line by line are owned and rising, and forms that are so are read.
 use Rattle.std.proofs.Common.{◌≡◌, ℕ, ◌+◌, ◌*◌, ◌<◌, ◌≤◌, true, ◌&&◌, ltb, leb, List, [], ◌∷◌, ◌++◌, map, sym, refl, ap, ◌∙◌, arith}
-use Rattle.std.specs.List.{AllByRecursion as All}
+use Rattle.std.specs.List.{AllByRecursion}
 use Rattle.std.proofs.lemmas.Bool.{and_parts, and_from, leb-true, ltb-true, le-leb, lt-ltb}
 use Rattle.lists.specs.declared.parts.Form.{Form}
 use Rattle.lists.specs.declared.refusal.Place.TheVariants as place
@@ -52,6 +52,6 @@ risen k before (f ∷ fs) p =
     and_from _ _ (and_from _ _ (and_from _ _ (and_from _ _ (le-leb (32 + 32 * k) f.label p.0) (le-leb f.label (63 + 32 * k) p.1)) (lt-ltb before f.label p.2)) (le-leb f.count 8 p.3)) (risen k f.label fs p.4)
 
 -- the words of declared forms fit 32 bits
-pub form_words : (k before : ℕ) (forms : List Form) → k ≤ 6 → Rising k before forms → All (λ f. form_word f < 4294967296) forms
+pub form_words : (k before : ℕ) (forms : List Form) → k ≤ 6 → Rising k before forms → AllByRecursion (λ f. form_word f < 4294967296) forms
 form_words k before [] l p = tt
 form_words k before (f ∷ fs) l p = (omega (arith, p.1, p.3), form_words k f.label fs l p.4)

@@ -1,10 +1,10 @@
 -- The line of a rule: what it says that fits, and what fits; and the lines of all rules.
 use Rattle.std.proofs.Common.{◌≡◌, ℕ, ◌+◌, ◌*◌, ◌<◌, ◌≤◌, Bool, true, false, cond, ◌&&◌, eqb, leb, List, [], ◌∷◌, ◌++◌, length, take, drop, Some, None, Option, sym, refl, ap, ◌∙◌, subst, add-one, arith}
-use Rattle.std.specs.List.{AllByRecursion as All}
+use Rattle.std.specs.List.{AllByRecursion}
 use Rattle.std.proofs.lemmas.List.{take-append-drop, length-take-le, length-drop, length-append, length_push, take_at, drop_at}
 use Rattle.std.proofs.lemmas.Bool.{and_parts, leb-true, eqb-true}
 use Rattle.lists.specs.declared.refusal.Place.TheVariants as place
-use Rattle.texts.specs.Texts.{Reading, head-line, form-line, table_line, rule-line, broken_line}
+use Rattle.texts.specs.Texts.{Reading, head_line, form_line, table_line, rule_line, broken_line}
 use Rattle.lists.specs.Lines.{Sides, within, sides_from, words_of, rule_of, rule_of_line}
 use Rattle.lists.specs.Spelling.{word_fields, rule_says, rules_say}
 use Rattle.texts.proofs.Answering.{none_not_some, same_some}
@@ -23,7 +23,7 @@ two_sides true None r s e = absurd (none_not_some e)
 two_sides true (Some l) None s e = absurd (none_not_some e)
 two_sides true (Some l) (Some r) s e = let same = same_some e in (refl, ap (λ (x : Sides). Some x.left) same, ap (λ (x : Sides). Some x.right) same)
 
-rule_of_says : (k n a b : ℕ) (ns : List ℕ) (s : Sides) → rule_of k (n ∷ a ∷ b ∷ ns) ≡ Some s → (rule-line (n ∷ a ∷ b ∷ ns) ≡ rule_says k s) × Sized s
+rule_of_says : (k n a b : ℕ) (ns : List ℕ) (s : Sides) → rule_of k (n ∷ a ∷ b ∷ ns) ≡ Some s → (rule_line (n ∷ a ∷ b ∷ ns) ≡ rule_says k s) × Sized s
 rule_of_says k n a b ns s e =
     let t = two_sides (eqb n k && within 1 9 a && within 1 64 b && eqb (length ns) (2 * (a + b))) (words_of (take (2 * a) ns)) (words_of (drop (2 * a) ns)) s e in
     let tests = and_parts (eqb n k && within 1 9 a && within 1 64 b) (eqb (length ns) (2 * (a + b))) t.0 in
@@ -38,23 +38,23 @@ rule_of_says k n a b ns s e =
     let left-long : length s.left ≡ a = omega (arith, left.1, length-take-le (2 * a) ns (omega arith)) in
     let right-long : length s.right ≡ b = omega (arith, right.1, length-drop (2 * a) ns) in
     let fields : ns ≡ word_fields s.left ++ word_fields s.right = sym (take-append-drop (2 * a) ns) ∙ (λ i. left.0 i ++ right.0 i) in (
-      (λ i. rule-line (number i ∷ sym left-long i ∷ sym right-long i ∷ fields i)),
+      (λ i. rule_line (number i ∷ sym left-long i ∷ sym right-long i ∷ fields i)),
       (omega (arith, leb-true 1 a lefts.0), omega (arith, leb-true a 9 lefts.1), omega (arith, leb-true 1 b rights.0), omega (arith, leb-true b 64 rights.1)),
     )
 
 pub rule_says_lem : (k : ℕ) (r : Reading) (s : Sides) → rule_of_line k r ≡ Some s → (r ≡ rule_says k s) × Sized s
-rule_says_lem k (rule-line []) s e = absurd (none_not_some e)
-rule_says_lem k (rule-line (n ∷ [])) s e = absurd (none_not_some e)
-rule_says_lem k (rule-line (n ∷ a ∷ [])) s e = absurd (none_not_some e)
-rule_says_lem k (rule-line (n ∷ a ∷ b ∷ ns)) s e = rule_of_says k n a b ns s e
-rule_says_lem k (head-line ns) s e = absurd (none_not_some e)
-rule_says_lem k (form-line ns) s e = absurd (none_not_some e)
+rule_says_lem k (rule_line []) s e = absurd (none_not_some e)
+rule_says_lem k (rule_line (n ∷ [])) s e = absurd (none_not_some e)
+rule_says_lem k (rule_line (n ∷ a ∷ [])) s e = absurd (none_not_some e)
+rule_says_lem k (rule_line (n ∷ a ∷ b ∷ ns)) s e = rule_of_says k n a b ns s e
+rule_says_lem k (head_line ns) s e = absurd (none_not_some e)
+rule_says_lem k (form_line ns) s e = absurd (none_not_some e)
 rule_says_lem k (table_line ns) s e = absurd (none_not_some e)
 rule_says_lem k broken_line s e = absurd (none_not_some e)
 
 -- the words fit 32 bits
 abbrev pub InWords : Sides → Type 0
-InWords s = All (λ w. w < 4294967296) s.left × All (λ w. w < 4294967296) s.right
+InWords s = AllByRecursion (λ w. w < 4294967296) s.left × AllByRecursion (λ w. w < 4294967296) s.right
 
 pub rule_fits : (k : ℕ) (s : Sides) → Sized s → InWords s → rule_of_line k (rule_says k s) ≡ Some s
 rule_fits k s sized words =
@@ -70,7 +70,7 @@ rule_fits k s sized words =
 abbrev pub RulesRead : List Sides → List Sides → List Reading → Type 0
 RulesRead = ReadAs (λ i. place.Rule i) (λ read. rule_of_line (length read))
 
-pub rules-said : (read xs : List Sides) (rs : List Reading) → RulesRead read xs rs → (rs ≡ rules_say (length read) xs) × All Sized xs
+pub rules-said : (read xs : List Sides) (rs : List Reading) → RulesRead read xs rs → (rs ≡ rules_say (length read) xs) × AllByRecursion Sized xs
 rules-said read [] [] p = (refl, tt)
 rules-said read [] (r ∷ rs) p = absurd p
 rules-said read (x ∷ xs) [] p = absurd p
@@ -80,7 +80,7 @@ rules-said read (x ∷ xs) (r ∷ rs) p =
     let next = length_push read x ∙ add-one (length read) in
     ((λ i. here.0 i ∷ (rest.0 ∙ ap (λ n. rules_say n xs) next) i), (here.1, rest.1))
 
-pub said-rules : (read xs : List Sides) → All Sized xs → All InWords xs → RulesRead read xs (rules_say (length read) xs)
+pub said-rules : (read xs : List Sides) → AllByRecursion Sized xs → AllByRecursion InWords xs → RulesRead read xs (rules_say (length read) xs)
 said-rules read [] p q = tt
 said-rules read (x ∷ xs) p q =
     let next = length_push read x ∙ add-one (length read) in

@@ -1,6 +1,6 @@
 -- The shape of the two sides: the tests as statements, both ways.
 use Rattle.std.proofs.Common.{◌≡◌, ℕ, ◌<◌, true, false, ◌&&◌, ◌||◌, eqb, leb, List, [], ◌∷◌, length, is_ok, Some, None, Ok, Err, Option, Result, sym, refl, ap, ◌∙◌, subst, arith}
-use Rattle.std.specs.List.{AllByRecursion as All}
+use Rattle.std.specs.List.{AllByRecursion}
 use Rattle.std.proofs.lemmas.Bool.{and_parts, and_from, eqb-true, eq-eqb, leb-true, false≢true, or_right}
 use Rattle.terms.specs.declared.words.Node.{Node}
 use Rattle.terms.specs.declared.words.Node.TheVariants.{Atom, Variable, Body, Head, Form}
@@ -86,7 +86,7 @@ pub right-shaped : (k : ℕ) (right : List ℕ) → RightSide k right → right_
 right-shaped k right s =
     let first = form-first s.0 s.1 s.2 in
     let is = sym s.3 ∙ first.1 in
-    let all = subst (All (λ w. on_right k w ≡ true)) is s.4 in
+    let all = subst (AllByRecursion (λ w. on_right k w ≡ true)) is s.4 in
     let tree = if_tree (word s.0 (count s.1) ∷ first.0) (form s.0 s.1) s.2 first.1 in
     ap (right_shaped k) is
     ∙ and_from _ _ (and_from _ _ (lower_if k s.0 (count s.1) (word s.0 (count s.1)) first.2 all.0) (every_if_all (on_right k) first.0 all.1)) tree
@@ -108,8 +108,8 @@ right-small k w (Some (Body j)) s e = absurd (false≢true e)
 right-small k w (Some (Head j r d)) s e = absurd (false≢true e)
 right-small k w (Some (Form l n)) s e = omega (arith, s.0, leb-true l 255 (and_parts (leb 16 l) (leb l 255) s.1).1, s.2)
 
-pub arguments-small : (args : List ℕ) → All (λ w. is_argument w ≡ true) args → All (λ w. w < 4294967296) args
+pub arguments-small : (args : List ℕ) → AllByRecursion (λ w. is_argument w ≡ true) args → AllByRecursion (λ w. w < 4294967296) args
 arguments-small args a = all_by (λ w e. node_small w (node_of w) (stands w) e) args a
 
-pub rights-small : (k : ℕ) (right : List ℕ) → All (λ w. on_right k w ≡ true) right → All (λ w. w < 4294967296) right
+pub rights-small : (k : ℕ) (right : List ℕ) → AllByRecursion (λ w. on_right k w ≡ true) right → AllByRecursion (λ w. w < 4294967296) right
 rights-small k right a = all_by (λ w e. right-small k w (node_of w) (stands w) e) right a

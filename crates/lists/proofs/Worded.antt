@@ -1,6 +1,6 @@
 -- The words of a side as fields, and back.
 use Rattle.std.proofs.Common.{◌≡◌, ℕ, ◌+◌, ◌*◌, ◌/◌, ◌%◌, ◌<◌, ◌≤◌, ◌&&◌, leb, List, [], ◌∷◌, length, Some, None, Option, sym, refl, ap, ◌∙◌, arith}
-use Rattle.std.specs.List.{AllByRecursion as All}
+use Rattle.std.specs.List.{AllByRecursion}
 use Rattle.std.proofs.lemmas.Bool.{and_parts, leb-true, le-leb}
 use Rattle.lists.specs.Lines.{and_then, word_at, words_of}
 use Rattle.lists.specs.Spelling.{word_fields}
@@ -38,7 +38,7 @@ fields_of_words (l ∷ p ∷ ns) ws e =
       omega (arith, rest.1, ap length b.4),
     )
 
-pub words_of_fields : (ws : List ℕ) → All (λ w. w < 4294967296) ws → words_of (word_fields ws) ≡ Some ws
+pub words_of_fields : (ws : List ℕ) → AllByRecursion (λ w. w < 4294967296) ws → words_of (word_fields ws) ≡ Some ws
 unfolding words_of
 words_of_fields [] p = refl
 words_of_fields (w ∷ ws) p =

@@ -1,6 +1,6 @@
 -- What acceptance means, in the words of the subject.
 use Rattle.std.specs.Prelude.{◌≡◌, ℕ, ◌+◌, ◌*◌, ◌<◌, ◌≤◌, true, false, ◌⊎◌, List, [], ◌∷◌, length, Ok, Err, Result, ◌≢◌, slice_index, slice_index_or}
-use Rattle.std.specs.List.{ContainsAt as Has, AllByRecursion as All}
+use Rattle.std.specs.List.{ContainsAt, AllByRecursion}
 use Rattle.terms.specs.Words.{node_of}
 use Rattle.terms.specs.Trees.{Trees, form, written, WellMade}
 use Rattle.lists.specs.declared.parts.Form.{Form}
@@ -26,11 +26,11 @@ Rising k before (f ∷ fs) = (32 + 32 * k ≤ f.label) × (f.label ≤ 63 + 32 *
 
 -- a declared form, and as many variables and atoms as it has children
 abbrev pub LeftSide : List Form → List ℕ → Type 0
-LeftSide forms left = (f : Form) × (args : List ℕ) × Has forms f × (left ≡ form_word f ∷ args) × (length args ≡ f.count) × All (λ w. is_argument w ≡ true) args
+LeftSide forms left = (f : Form) × (args : List ℕ) × ContainsAt forms f × (left ≡ form_word f ∷ args) × (length args ≡ f.count) × AllByRecursion (λ w. is_argument w ≡ true) args
 
 -- one tree whose root is a form, of atoms, variables and forms of labels below those of layer k
 abbrev pub RightSide : ℕ → List ℕ → Type 0
-RightSide k right = (label : ℕ) × (ts : Trees) × WellMade (form label ts) true × (written (form label ts) ≡ right) × All (λ w. on_right k w ≡ true) right
+RightSide k right = (label : ℕ) × (ts : Trees) × WellMade (form label ts) true × (written (form label ts) ≡ right) × AllByRecursion (λ w. on_right k w ≡ true) right
 
 -- no variable stands at two places
 abbrev pub OncePlaced : List ℕ → Type 0
@@ -38,7 +38,7 @@ OncePlaced ws = (i j : ℕ) → i < j → j < length ws → is_variable (node_of
 
 -- a variable of the right side stands on the left
 abbrev pub FromLeft : List ℕ → List ℕ → Type 0
-FromLeft left right = (w : ℕ) → Has right w → is_variable (node_of w) ≡ true → Has left w
+FromLeft left right = (w : ℕ) → ContainsAt right w → is_variable (node_of w) ≡ true → ContainsAt left w
 
 -- two left sides overlap: the same form, and no argument place with two different atoms
 abbrev pub Overlaps : List ℕ → List ℕ → Type 0
@@ -46,21 +46,21 @@ Overlaps left other = (w : ℕ) × (vs : List ℕ) × (ws : List ℕ) × (left �
 
 -- some rule is for the form
 abbrev pub HasRule : List Sides → Form → Type 0
-HasRule rules f = (s : Sides) × (args : List ℕ) × Has rules s × (s.left ≡ form_word f ∷ args)
+HasRule rules f = (s : Sides) × (args : List ℕ) × ContainsAt rules s × (s.left ≡ form_word f ∷ args)
 
 -- all that is asked of a list
 pub record Proper (l : Listed) : Type 0 where
   pub layer : (1 ≤ l.layer) × (l.layer ≤ 6)
-  pub form_count_lem : (1 ≤ length l.forms) × (length l.forms ≤ 32)
+  pub form_count : (1 ≤ length l.forms) × (length l.forms ≤ 32)
   pub rule_count : (1 ≤ length l.rules) × (length l.rules ≤ 32)
   pub forms : Rising l.layer 0 l.forms
-  pub sizes : All (λ s. (length s.left ≤ 9) × (length s.right ≤ 64)) l.rules
-  pub lefts : All (λ s. LeftSide l.forms s.left) l.rules
-  pub rights : All (λ s. RightSide l.layer s.right) l.rules
-  pub once : All (λ s. OncePlaced s.left × OncePlaced s.right) l.rules
-  pub from_left : All (λ s. FromLeft s.left s.right) l.rules
+  pub sizes : AllByRecursion (λ s. (length s.left ≤ 9) × (length s.right ≤ 64)) l.rules
+  pub lefts : AllByRecursion (λ s. LeftSide l.forms s.left) l.rules
+  pub rights : AllByRecursion (λ s. RightSide l.layer s.right) l.rules
+  pub once : AllByRecursion (λ s. OncePlaced s.left × OncePlaced s.right) l.rules
+  pub from_left : AllByRecursion (λ s. FromLeft s.left s.right) l.rules
   pub apart : (i j : ℕ) (d : Sides) → i < j → j < length l.rules → Overlaps (slice_index_or l.rules i d).left (slice_index_or l.rules j d).left → ⊥
-  pub ruled : All (HasRule l.rules) l.forms
+  pub ruled : AllByRecursion (HasRule l.rules) l.forms
 
 -- from both sides: what is accepted is a proper list that the texts spell, and two texts that spell a proper list are accepted as that list
 abbrev pub AcceptedAreProper : Type 0

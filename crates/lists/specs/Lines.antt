@@ -12,18 +12,18 @@ use Rattle.lists.specs.declared.refusal.Refusal.{Refusal}
 use Rattle.lists.specs.declared.refusal.Refusal.TheVariants.{LineBroken, LineMissing, LineExtra, TableDiffers, NoMemory}
 use Rattle.texts.specs.declared.text.Word.{Word}
 use Rattle.texts.specs.declared.text.Word.TheVariants as word
-use Rattle.terms.specs.Words.{is_layer, word as wordWith}
-use Rattle.texts.specs.Texts.{Reading, head-line, form-line, table_line, rule-line, broken_line}
+use Rattle.terms.specs.Words.{is_layer, word as word_with}
+use Rattle.texts.specs.Texts.{Reading, head_line, form_line, table_line, rule_line, broken_line}
 
 abbrev pub within : ℕ → ℕ → ℕ → Bool
 within low high n = nat_le low n && nat_le n high
 
 -- the numbers of a line that begins with the word
 abbrev pub numbers_of : Word → Reading → Option (List ℕ)
-numbers_of word.Head r = elim r [ head-line ns ↦ Some ns | form-line ns ↦ None | table_line ns ↦ None | rule-line ns ↦ None | broken_line ↦ None ]
-numbers_of word.Form r = elim r [ head-line ns ↦ None | form-line ns ↦ Some ns | table_line ns ↦ None | rule-line ns ↦ None | broken_line ↦ None ]
-numbers_of word.Table r = elim r [ head-line ns ↦ None | form-line ns ↦ None | table_line ns ↦ Some ns | rule-line ns ↦ None | broken_line ↦ None ]
-numbers_of word.Rule r = elim r [ head-line ns ↦ None | form-line ns ↦ None | table_line ns ↦ None | rule-line ns ↦ Some ns | broken_line ↦ None ]
+numbers_of word.Head r = elim r [ head_line ns ↦ Some ns | form_line ns ↦ None | table_line ns ↦ None | rule_line ns ↦ None | broken_line ↦ None ]
+numbers_of word.Form r = elim r [ head_line ns ↦ None | form_line ns ↦ Some ns | table_line ns ↦ None | rule_line ns ↦ None | broken_line ↦ None ]
+numbers_of word.Table r = elim r [ head_line ns ↦ None | form_line ns ↦ None | table_line ns ↦ Some ns | rule_line ns ↦ None | broken_line ↦ None ]
+numbers_of word.Rule r = elim r [ head_line ns ↦ None | form_line ns ↦ None | table_line ns ↦ None | rule_line ns ↦ Some ns | broken_line ↦ None ]
 
 abbrev pub and_then : {X Y : Type 0} → Option X → (X → Option Y) → Option Y
 and_then None f = None
@@ -79,7 +79,7 @@ pub record Sides : Type 0 where
 
 -- a word of two fields: a label, 0 to 255, and a payload, 0 to 16,777,215
 abbrev pub word_at : ℕ → ℕ → Option ℕ
-word_at l p = cond (nat_le l 255 && nat_le p 16777215) (Some (wordWith l p)) None
+word_at l p = cond (nat_le l 255 && nat_le p 16777215) (Some (word_with l p)) None
 
 unfoldable pub words_of : List ℕ → Option (List ℕ)
 words_of [] = Some []

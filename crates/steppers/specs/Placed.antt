@@ -4,7 +4,7 @@ use Rattle.terms.specs.declared.words.Node.{Node}
 use Rattle.terms.specs.declared.words.Node.TheVariants as node
 use Rattle.terms.specs.Trees.{Tree, Trees, form, count, nth, written, WellFormed}
 use Rattle.steppers.specs.declared.action.Seen.{Seen}
-use Rattle.steppers.specs.declared.action.Seen.TheVariants as seenAs
+use Rattle.steppers.specs.declared.action.Seen.TheVariants as seen_as
 use Rattle.steppers.specs.declared.action.Action.{Action}
 use Rattle.steppers.specs.declared.spot.Spot.{Spot}
 use Rattle.steppers.specs.Looks.{BeginsWith, seen, seen_all, seen_at}
@@ -23,11 +23,11 @@ dropped_by (Some (node.Form l n)) = None
 -- what is seen of a node
 abbrev pub seen_by : Option Node → Option Seen
 seen_by None = None
-seen_by (Some (node.Atom v)) = Some (seenAs.Number v)
+seen_by (Some (node.Atom v)) = Some (seen_as.Number v)
 seen_by (Some (node.Variable n)) = None
 seen_by (Some (node.Body k)) = None
 seen_by (Some (node.Head k r d)) = None
-seen_by (Some (node.Form l n)) = Some (seenAs.Form l)
+seen_by (Some (node.Form l n)) = Some (seen_as.Form l)
 
 -- how many children a form has
 abbrev pub form_count : Option Node → Option ℕ

@@ -1,6 +1,6 @@
 -- Number fields: what digits are worth, and that a field reads as a number exactly when its digits spell the number.
 use Rattle.std.proofs.Common.{◌≡◌, ℕ, ◌+◌, ◌-◌, ◌*◌, ◌<◌, ◌≤◌, ◌&&◌, leb, ◌⊎◌, List, [], ◌∷◌, length, Some, None, Option, sym, refl, ap, ◌∙◌, inl, inr, arith}
-use Rattle.std.specs.List.{AllByRecursion as All}
+use Rattle.std.specs.List.{AllByRecursion}
 use Rattle.std.proofs.lemmas.Bool.{le-leb, leb-true, and_from, and_parts, cond-true, cases_lt}
 use Rattle.texts.specs.Texts.{digit_of, digits, number}
 use Rattle.texts.specs.Spelling.{value_from, Digits}
@@ -25,7 +25,7 @@ value_grows : (v : ℕ) (bs : List ℕ) → v ≤ value_from v bs
 value_grows v [] = omega arith
 value_grows v (b ∷ bs) = let more = value_grows (v * 10 + (b - 48)) bs in omega arith
 
-digits-read : (v : ℕ) (bs : List ℕ) → All Digit bs → value_from v bs ≤ 16777215 → digits v bs ≡ Some (value_from v bs)
+digits-read : (v : ℕ) (bs : List ℕ) → AllByRecursion Digit bs → value_from v bs ≤ 16777215 → digits v bs ≡ Some (value_from v bs)
 digits-read v [] a l = digits-none v
 digits-read v (b ∷ bs) a l =
     let more = value_grows (v * 10 + (b - 48)) bs in
@@ -46,7 +46,7 @@ first_digit v b bs n e = by (digit_of b) refl
         let l = within d o (cases_lt 16777215 (v * 10 + d)) in
         rw is.1 (is.0, l, sym (digits_more v b bs d o l) ∙ e)
 
-digits-spelled : (v : ℕ) (bs : List ℕ) (n : ℕ) → v ≤ 16777215 → digits v bs ≡ Some n → All Digit bs × (value_from v bs ≡ n) × (n ≤ 16777215)
+digits-spelled : (v : ℕ) (bs : List ℕ) (n : ℕ) → v ≤ 16777215 → digits v bs ≡ Some n → AllByRecursion Digit bs × (value_from v bs ≡ n) × (n ≤ 16777215)
 digits-spelled v [] n l e = let same : v ≡ n = same_some (sym (digits-none v) ∙ e) in (tt, same, omega arith)
 digits-spelled v (b ∷ bs) n l e =
     let first = first_digit v b bs n e in

@@ -2,7 +2,7 @@
 use Rattle.std.proofs.Common.{◌≡◌, ℕ, ◌<◌, Bool, true, false, eqb, List, [], ◌∷◌, ◌++◌, length, get_or, take, drop, Some, None, codes, Option, sym, refl, ap, ◌∙◌, arith}
 use Rattle.std.proofs.lemmas.List.{take-append-drop}
 use Rattle.std.proofs.lemmas.Bool.{eqb-true}
-use Rattle.texts.specs.Texts.{Reading, behind, said, numbered, head-line, form-line, table_line, rule-line, broken_line}
+use Rattle.texts.specs.Texts.{Reading, behind, said, numbered, head_line, form_line, table_line, rule_line, broken_line}
 use Rattle.texts.specs.Pieces.{Begins}
 
 -- five bytes, one by one
@@ -62,15 +62,15 @@ module _ (bs w r : List ℕ) (front : w ≡ take 5 bs) (back : r ≡ drop 5 bs) 
   begun : {v : List ℕ} → w ≡ v → bs ≡ v ++ r
   begun e = rw (← e) parts
 
-  pub is_head_lem : w ≡ codes "head," → said bs ≡ numbered head-line r
+  pub is_head_lem : w ≡ codes "head," → said bs ≡ numbered head_line r
   unfolding said behind
   is_head_lem e = ap said (begun e)
 
-  pub is_form : w ≡ codes "form," → said bs ≡ numbered form-line r
+  pub is_form : w ≡ codes "form," → said bs ≡ numbered form_line r
   unfolding said behind
   is_form e = ap said (begun e)
 
-  pub is_rule : w ≡ codes "rule," → said bs ≡ numbered rule-line r
+  pub is_rule : w ≡ codes "rule," → said bs ≡ numbered rule_line r
   unfolding said behind
   is_rule e = ap said (begun e)
 

@@ -1,6 +1,6 @@
 -- A text by its pieces: what pieces a front without separators makes, and what text has given pieces.
 use Rattle.std.proofs.Common.{◌≡◌, ℕ, Bool, true, false, eqb, List, [], ◌∷◌, ◌++◌, refl, ap, ◌∙◌}
-use Rattle.std.specs.List.{AllByRecursion as All}
+use Rattle.std.specs.List.{AllByRecursion}
 use Rattle.std.proofs.ByRecursion.{All-get_or}
 use Rattle.std.proofs.lemmas.Bool.{eqb-true}
 use Rattle.texts.specs.Texts.{pieces, grown}
@@ -8,7 +8,7 @@ use Rattle.texts.proofs.Cutting.{parted, joined, one_piece}
 
 -- no byte is the separator
 abbrev pub Without : ℕ → List ℕ → Type 0
-Without sep bs = All (λ b. b ≡ sep → ⊥) bs
+Without sep bs = AllByRecursion (λ b. b ≡ sep → ⊥) bs
 
 pub piece_only : (sep : ℕ) (p : List ℕ) → Without sep p → pieces sep p ≡ p ∷ []
 piece_only sep p none = one_piece sep p (λ k l. All-get_or (λ b. b ≡ sep → ⊥) p k 0 l none)

@@ -1,6 +1,6 @@
 -- A text reads as a list of readings exactly when it spells them, line by line.
 use Rattle.std.proofs.Common.{◌≡◌, ℕ, List, [], ◌∷◌, ◌++◌, map, sym, refl, ap, ◌∙◌, arith}
-use Rattle.std.specs.List.{AllByRecursion as All}
+use Rattle.std.specs.List.{AllByRecursion}
 use Rattle.std.proofs.lemmas.List.{append_assoc}
 use Rattle.texts.specs.Texts.{Reading, broken_line, said, pieces, lines_of, lines, reading, readings}
 use Rattle.texts.specs.Laws.{Unbroken}
@@ -47,7 +47,7 @@ one_read ((b ∷ bs) ∷ []) text r rs u cut e = absurd (not_broken r u (cc))
 one_read (p ∷ q ∷ qs) text r rs u cut e = (p, cut.0, cut.1, cc, ap said_of cut.2 ∙ cc)
 
 -- a text that reads as readings, none of them broken, spells them
-pub spelled_if_read : (rs : List Reading) (text : List ℕ) → All Unbroken rs → readings text ≡ rs → TextSpelled rs text
+pub spelled_if_read : (rs : List Reading) (text : List ℕ) → AllByRecursion Unbroken rs → readings text ≡ rs → TextSpelled rs text
 unfolding readings lines
 spelled_if_read [] text u e = none_read (pieces 10 text) text (cut_of 10 text) e
 spelled_if_read (r ∷ rs) text u e =

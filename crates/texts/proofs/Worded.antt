@@ -1,7 +1,7 @@
 -- One line: its bytes before the line end say a reading exactly when they and byte 10 spell it.
 use Rattle.std.proofs.Common.{◌≡◌, ℕ, List, [], ◌∷◌, ◌++◌, Some, None, codes, Option, refl, ap, ◌∙◌, arith}
 use Rattle.std.proofs.ByRecursion.{All-append}
-use Rattle.texts.specs.Texts.{Reading, head-line, form-line, table_line, rule-line, broken_line, behind, said, numbered, numbers, pieces}
+use Rattle.texts.specs.Texts.{Reading, head_line, form_line, table_line, rule_line, broken_line, behind, said, numbered, numbers, pieces}
 use Rattle.texts.specs.Spelling.{FieldsSpelled, LineWith, LineSpelled}
 use Rattle.texts.proofs.Firsts.{behind-some}
 use Rattle.texts.proofs.Parted.{Without}
@@ -19,11 +19,11 @@ spoken_by : (word : List ℕ) (kind : List ℕ → Reading) → Without 10 word 
 spoken_by word kind none says ns line s =
     (word ++ s.0, s.1, All-append (λ b. b ≡ 10 → ⊥) word s.0 none (fields_unended ns s.0 s.2), says s.0 ∙ numbered_is kind ns s.0 s.2)
 
-head_says : (fields : List ℕ) → said (codes "head," ++ fields) ≡ numbered head-line fields
+head_says : (fields : List ℕ) → said (codes "head," ++ fields) ≡ numbered head_line fields
 unfolding said behind
 head_says fields = refl
 
-form_says_lem : (fields : List ℕ) → said (codes "form," ++ fields) ≡ numbered form-line fields
+form_says_lem : (fields : List ℕ) → said (codes "form," ++ fields) ≡ numbered form_line fields
 unfolding said behind
 form_says_lem fields = refl
 
@@ -31,16 +31,16 @@ table_says_lem : (fields : List ℕ) → said (codes "table," ++ fields) ≡ num
 unfolding said behind
 table_says_lem fields = refl
 
-rule_says_lem : (fields : List ℕ) → said (codes "rule," ++ fields) ≡ numbered rule-line fields
+rule_says_lem : (fields : List ℕ) → said (codes "rule," ++ fields) ≡ numbered rule_line fields
 unfolding said behind
 rule_says_lem fields = refl
 
 -- a line that spells a reading says it
 pub line-said : (r : Reading) (line : List ℕ) → LineSpelled r line → Spoken r line
-line-said (head-line ns) line s = spoken_by (codes "head,") head-line (omega arith) head_says ns line s
-line-said (form-line ns) line s = spoken_by (codes "form,") form-line (omega arith) form_says_lem ns line s
+line-said (head_line ns) line s = spoken_by (codes "head,") head_line (omega arith) head_says ns line s
+line-said (form_line ns) line s = spoken_by (codes "form,") form_line (omega arith) form_says_lem ns line s
 line-said (table_line ns) line s = spoken_by (codes "table,") table_line (omega arith) table_says_lem ns line s
-line-said (rule-line ns) line s = spoken_by (codes "rule,") rule-line (omega arith) rule_says_lem ns line s
+line-said (rule_line ns) line s = spoken_by (codes "rule,") rule_line (omega arith) rule_says_lem ns line s
 line-said broken_line line s = absurd s
 
 -- the bytes behind a word say a reading that is not broken
@@ -61,9 +61,9 @@ module _ (bytes : List ℕ) (r : Reading) (unbroken : broken_line ≡ r → ⊥)
   unfolding said
   line-spelled is = by (behind (codes "head,") bytes) (behind (codes "form,") bytes) (behind (codes "table,") bytes) (behind (codes "rule,") bytes) refl refl refl refl is
     where
-      by : (h f t s : Option (List ℕ)) → behind (codes "head,") bytes ≡ h → behind (codes "form,") bytes ≡ f → behind (codes "table,") bytes ≡ t → behind (codes "rule,") bytes ≡ s → elim h [ Some fields ↦ numbered head-line fields | None ↦ elim f [ Some fields ↦ numbered form-line fields | None ↦ elim t [ Some fields ↦ numbered table_line fields | None ↦ elim s [ Some fields ↦ numbered rule-line fields | None ↦ broken_line ] ] ] ] ≡ r → Spells
-      by (Some fields) f t s eh ef et es is = worded (codes "head,") head-line (λ ns line l. l) fields eh is
-      by None (Some fields) t s eh ef et es is = worded (codes "form,") form-line (λ ns line l. l) fields ef is
+      by : (h f t s : Option (List ℕ)) → behind (codes "head,") bytes ≡ h → behind (codes "form,") bytes ≡ f → behind (codes "table,") bytes ≡ t → behind (codes "rule,") bytes ≡ s → elim h [ Some fields ↦ numbered head_line fields | None ↦ elim f [ Some fields ↦ numbered form_line fields | None ↦ elim t [ Some fields ↦ numbered table_line fields | None ↦ elim s [ Some fields ↦ numbered rule_line fields | None ↦ broken_line ] ] ] ] ≡ r → Spells
+      by (Some fields) f t s eh ef et es is = worded (codes "head,") head_line (λ ns line l. l) fields eh is
+      by None (Some fields) t s eh ef et es is = worded (codes "form,") form_line (λ ns line l. l) fields ef is
       by None None (Some fields) s eh ef et es is = worded (codes "table,") table_line (λ ns line l. l) fields et is
-      by None None None (Some fields) eh ef et es is = worded (codes "rule,") rule-line (λ ns line l. l) fields es is
+      by None None None (Some fields) eh ef et es is = worded (codes "rule,") rule_line (λ ns line l. l) fields es is
       by None None None None eh ef et es is = absurd (unbroken is)

@@ -1,7 +1,7 @@
 -- The first piece of a text, and what is behind it.
 use Rattle.std.specs.Prelude.{◌≡◌, ℕ, List, [], ◌∷◌, ◌++◌, Some, None, codes, MatchBool, Option, ◌≢◌}
 use Rattle.texts.specs.declared.text.Piece.{Piece}
-use Rattle.texts.specs.Texts.{Reading, pieces, numbered, reading, readings, head-line, form-line, table_line, rule-line, broken_line}
+use Rattle.texts.specs.Texts.{Reading, pieces, numbered, reading, readings, head_line, form_line, table_line, rule_line, broken_line}
 use Rattle.texts.specs.declared.text.Line.{Line}
 use Rattle.texts.specs.declared.text.Line.TheVariants as line
 use Rattle.texts.specs.declared.text.Word.{Word}
@@ -23,7 +23,7 @@ NextLine text (Some p) = (readings text ≡ line_says p ∷ readings p.rest.now)
 
 -- which word five bytes begin with: none is the other case
 abbrev pub Begins : List ℕ → Option Word → Type 0
-Begins bytes None = (bytes ≡ codes "head," → ⊥) × (bytes ≡ codes "form," → ⊥) × (bytes ≢ codes "table") × (bytes ≡ codes "rule," → ⊥)
+Begins bytes None = (bytes ≢ codes "head,") × (bytes ≢ codes "form,") × (bytes ≢ codes "table") × (bytes ≢ codes "rule,")
 Begins bytes (Some Head) = bytes ≡ codes "head,"
 Begins bytes (Some Form) = bytes ≡ codes "form,"
 Begins bytes (Some Rule) = bytes ≡ codes "rule,"
@@ -32,10 +32,10 @@ Begins bytes (Some Table) = bytes ≡ codes "table"
 -- what a line with this first word and these fields says
 abbrev pub line_means : Option Line → Reading
 line_means None = broken_line
-line_means (Some (line.Head fields)) = numbered head-line fields.now
-line_means (Some (line.Form fields)) = numbered form-line fields.now
+line_means (Some (line.Head fields)) = numbered head_line fields.now
+line_means (Some (line.Form fields)) = numbered form_line fields.now
 line_means (Some (line.Table fields)) = numbered table_line fields.now
-line_means (Some (line.Rule fields)) = numbered rule-line fields.now
+line_means (Some (line.Rule fields)) = numbered rule_line fields.now
 
 abbrev pub fields_if : Word → Line → Option (List ℕ)
 fields_if Head l = elim l [ line.Head f ↦ Some f.now | line.Form f ↦ None | line.Table f ↦ None | line.Rule f ↦ None ]

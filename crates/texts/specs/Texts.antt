@@ -64,7 +64,7 @@ behind (f ∷ fs) (b ∷ bs) = elim (f == b) [ true ↦ behind fs bs | false ↦
 
 -- what a line says: which word its first field is, and the numbers of the others
 pub data Reading : Type 0 where
-  head-line form-line table_line rule-line : List ℕ → Reading
+  head_line form_line table_line rule_line : List ℕ → Reading
   broken_line : Reading
 
 -- a line of the kind with these fields, if all are number fields
@@ -76,13 +76,13 @@ unfoldable pub said : List ℕ → Reading
 unfolding behind numbered
 said bs =
     elim (behind (codes "head,") bs) [
-      | Some fields ↦ numbered head-line fields
+      | Some fields ↦ numbered head_line fields
       | None ↦ elim (behind (codes "form,") bs) [
-        | Some fields ↦ numbered form-line fields
+        | Some fields ↦ numbered form_line fields
         | None ↦ elim (behind (codes "table,") bs) [
           | Some fields ↦ numbered table_line fields
           | None ↦ elim (behind (codes "rule,") bs) [
-            | Some fields ↦ numbered rule-line fields
+            | Some fields ↦ numbered rule_line fields
             | None ↦ broken_line
           ]
         ]

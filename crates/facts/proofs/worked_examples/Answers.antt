@@ -1,7 +1,7 @@
 use Rattle.std.proofs.Common.{refl}
 use Rattle.terms.specs.Fronts.{ending, later, wholly}
 use Rattle.terms.specs.Trees.{first, in_head, put, read, count, written, nth, term_of}
-use Rattle.expansion.specs.Rules.{rule_of as ruleBy, stands}
+use Rattle.expansion.specs.Rules.{rule_of as rule_by, stands}
 use Rattle.expansion.specs.Matches.{takes_all, matching, dropped, value_of}
 use Rattle.expansion.specs.Expansion.{instance, plain_instance, expanded, uses_of, plain}
 use Rattle.expansion.specs.Offences.{offence}
@@ -16,5 +16,5 @@ use Rattle.lists.specs.Acceptance.{side_fault, overlap_fault, form_fault, fault_
 use Rattle.facts.proofs.worked_examples.Goals as goal
 
 pub returns : goal.returns
-unfolding accepted readings said numbered behind numbers number digits lines lines_of pieces grown judge_header judge_table judge_lines words_of fault_in side_fault overlap_fault form_fault every any once_each agree ending later wholly first in_head put read count written nth seen seen_all seen_at pick fill step_of rule_of term_of lacking expansion_of ruleBy stands takes_all matching dropped value_of instance plain_instance expanded uses_of plain offence expansion_by
+unfolding accepted readings said numbered behind numbers number digits lines lines_of pieces grown judge_header judge_table judge_lines words_of fault_in side_fault overlap_fault form_fault every any once_each agree ending later wholly first in_head put read count written nth seen seen_all seen_at pick fill step_of rule_of term_of lacking expansion_of rule_by stands takes_all matching dropped value_of instance plain_instance expanded uses_of plain offence expansion_by
 returns c = record { second_pick = (refl, refl); repetition = (refl, λ image. refl, refl); lists = (refl, refl); go = refl; note = refl; refused = (refl, refl, refl); stroke = (refl, refl, refl, refl, refl) }
