@@ -11,9 +11,9 @@ use Rattle.expansion.specs.Expansion.{instance, instances, taken, taken_if, expa
 use Rattle.expansion.specs.Unexpansion.{Bound, single, both, form_if, body_if, head_if, refilled, untaken, untaken_if, root_label, root_children, if_number, unexpanded, unexpanded_all, found, found_form, found_all}
 use Rattle.expansion.specs.Offences.{Offence, offence, offences, offences_kept, later, mark, unmatched}
 use Rattle.expansion.specs.Laws.{Right, RightAll, SoundRule, SoundRules, ExpandsTo, UnexpansionIsExact}
-use Rattle.expansion.proofs.ExactMatches.{matching-left}
+use Rattle.expansion.proofs.ExactMatches.{matching_left}
 use Rattle.expansion.proofs.ExactBounds.{Binds, BindsOne, BindsAll, both_some, none_binds, atom_binds, variable_binds, more_binds}
-use Rattle.expansion.proofs.ExactRefills.{cons-some, refilled_is}
+use Rattle.expansion.proofs.ExactRefills.{cons_some, refilled_is}
 
 -- a choice by a test that holds
 chosen_true : {X : Type 0} (b : Bool) (x y : X) → b ≡ true → ◌≡◌ {A = X} (elim b [ true ↦ x | false ↦ y ]) x
@@ -70,8 +70,8 @@ module _ (k : ℕ) (rules : List Rule) where
 
   module _ (sound : SoundRules k rules) where
     -- the layer's labels are labels of forms
-    own-label : (l : ℕ) → owned k l ≡ true → is_form_label l ≡ true
-    own-label l own =
+    own_label : (l : ℕ) → owned k l ≡ true → is_form_label l ≡ true
+    own_label l own =
         let p = and_parts (leb (32 + 32 * k) l) (leb l (63 + 32 * k)) own in
         let low = leb-true (32 + 32 * k) l p.0 in
         let high = leb-true l (63 + 32 * k) p.1 in
@@ -98,39 +98,39 @@ module _ (k : ℕ) (rules : List Rule) where
     -- the left side of a rule, filled in again, expands to the head mark that it came from
     left_exact : (r : ℕ) (rule : Rule) (ds : Trees) (c : Tree) (bs : List Bound) (ts : Trees) → rule_at r rules ≡ Some rule → SoundRule k rule → BindsOne k rules rule.right c bs → WellMadeAll ds false → refilled rule.right rule.arguments ds bs ≡ Some ts → ExpandsTo k rules (form rule.label ts) (head k r ds c)
     unfolding WellMade
-    left_exact r rule ds c bs ts at-r s binds formed e =
+    left_exact r rule ds c bs ts at_r s binds formed e =
         let f = refilled_is k rules rule.right bs binds.good rule.arguments ds ts s.arguments formed e in
         let m : Numbered = record { number = r; rule = rule } in
-        let match = matching-left k rules r rule ts sound at-r f.fitting in
+        let match = matching_left k rules r rule ts sound at_r f.fitting in
         let inside = binds.fills rule.arguments (expanded_all k rules ts) (λ n v st b. f.valued n v (s.from_left n st) st b) in
         let drops = f.drops in
         let same : taken k ts (expanded_all k rules ts) m ≡ head k r ds c = cc in
-        ((own-label rule.label s.own, rw f.counted s.few, f.formed), owned-offence rule.label ts m s.own match f.calm, owned-expanded rule.label ts m s.own match ∙ same)
+        ((own_label rule.label s.own, rw f.counted s.few, f.formed), owned-offence rule.label ts m s.own match f.calm, owned-expanded rule.label ts m s.own match ∙ same)
 
     -- the root of a right side is matched as a form
     root_binds : (right : Tree) (c : Tree) (bs : List Bound) → ((l : ℕ) × (us : Trees) × (right ≡ form l us)) → Right k right → ((l : ℕ) (us : Trees) → RightAll k us → found k rules c l us ≡ Some bs → BindsOne k rules (form l us) c bs) → found k rules c (root_label right) (root_children right) ≡ Some bs → BindsOne k rules right c bs
     unfolding Right
-    root_binds (atom v) c bs root sound-right h e = let z = root.2 in apart (cc)
-    root_binds (variable n) c bs root sound-right h e = let z = root.2 in apart (cc)
-    root_binds (body j u) c bs root sound-right h e = absurd sound-right
-    root_binds (head j r ds u) c bs root sound-right h e = absurd sound-right
-    root_binds (form l us) c bs root sound-right h e = h l us sound-right.3 e
+    root_binds (atom v) c bs root sound_right h e = let z = root.2 in apart (cc)
+    root_binds (variable n) c bs root sound_right h e = let z = root.2 in apart (cc)
+    root_binds (body j u) c bs root sound_right h e = absurd sound_right
+    root_binds (head j r ds u) c bs root sound_right h e = absurd sound_right
+    root_binds (form l us) c bs root sound_right h e = h l us sound_right.3 e
 
     -- a head mark of the layer
     untaken_exact : (r : ℕ) (ds : Trees) (c t : Tree) → WellMadeAll ds false → ((l : ℕ) (us : Trees) (bs : List Bound) → RightAll k us → found k rules c l us ≡ Some bs → BindsOne k rules (form l us) c bs) → (o : Option Rule) → rule_at r rules ≡ o → untaken_if o ds (λ rule. found k rules c (root_label rule.right) (root_children rule.right)) ≡ Some t → ExpandsTo k rules t (head k r ds c)
-    untaken_exact r ds c t formed h None at-r e = apart (cc)
-    untaken_exact r ds c t formed h (Some rule) at-r e = by_count (eqb (count ds) (losses rule.right rule.arguments)) e
+    untaken_exact r ds c t formed h None at_r e = apart (cc)
+    untaken_exact r ds c t formed h (Some rule) at_r e = by_count (eqb (count ds) (losses rule.right rule.arguments)) e
       where
         by_fill : (bs : List Bound) → BindsOne k rules rule.right c bs → (o : Option Trees) → refilled rule.right rule.arguments ds bs ≡ o → form_if rule.label o ≡ Some t → ExpandsTo k rules t (head k r ds c)
         by_fill bs binds None fill f = apart (cc)
         by_fill bs binds (Some ts) fill f =
             let is : form rule.label ts ≡ t = cc in
-            rw (← is) (left_exact r rule ds c bs ts at-r (sound.each r rule at-r) binds formed fill)
+            rw (← is) (left_exact r rule ds c bs ts at_r (sound.each r rule at_r) binds formed fill)
 
         by_match : (o : Option (List Bound)) → found k rules c (root_label rule.right) (root_children rule.right) ≡ o → untaken rule ds o ≡ Some t → ExpandsTo k rules t (head k r ds c)
         by_match None match f = apart (cc)
         by_match (Some bs) match f =
-            let s = sound.each r rule at-r in
+            let s = sound.each r rule at_r in
             by_fill bs (root_binds rule.right c bs s.root s.right (λ l us. h l us bs) match) (refilled rule.right rule.arguments ds bs) refl f
 
         by_count : (b : Bool) → cond b (untaken rule ds (found k rules c (root_label rule.right) (root_children rule.right))) None ≡ Some t → ExpandsTo k rules t (head k r ds c)
@@ -144,7 +144,7 @@ module _ (k : ℕ) (rules : List Rule) where
       where
         by_child : (o : Option Tree) → unexpanded k rules c ≡ o → ltb k j ≡ true → body_if j o ≡ Some t → ExpandsTo k rules t (body j c)
         by_child None u above f = apart (cc)
-        by_child (Some u) is-u above f = let is : body j u ≡ t = cc in rw (← is) (body_exact j u c above h (inside u is-u))
+        by_child (Some u) is_u above f = let is : body j u ≡ t = cc in rw (← is) (body_exact j u c above h (inside u is_u))
 
         by_test : (b : Bool) → ltb k j ≡ b → elim b [ true ↦ body_if j (unexpanded k rules c) | false ↦ None ] ≡ Some t → ExpandsTo k rules t (body j c)
         by_test true above f = by_child (unexpanded k rules c) refl above f
@@ -157,7 +157,7 @@ module _ (k : ℕ) (rules : List Rule) where
       where
         by_child : (o : Option Tree) → unexpanded k rules c ≡ o → ltb k j ≡ true → head_if j r ds o ≡ Some t → ExpandsTo k rules t (head j r ds c)
         by_child None u above f = apart (cc)
-        by_child (Some u) is-u above f = let is : head j r ds u ≡ t = cc in rw (← is) (head_exact j r ds u c above h (inside u is-u))
+        by_child (Some u) is_u above f = let is : head j r ds u ≡ t = cc in rw (← is) (head_exact j r ds u c above h (inside u is_u))
 
         by_layer : (b : Bool) → eqb k j ≡ b → elim b [ false ↦ None | true ↦ untaken_if (rule_at r rules) ds (λ rule. found k rules c (root_label rule.right) (root_children rule.right)) ] ≡ Some t → ExpandsTo k rules t (head j r ds c)
         by_layer false same f = apart (cc)
@@ -187,7 +187,7 @@ module _ (k : ℕ) (rules : List Rule) where
     from_more : (c : Tree) (cs ts : Trees) → ((u : Tree) → unexpanded k rules c ≡ Some u → ExpandsTo k rules u c) → ((us : Trees) → unexpanded_all k rules cs ≡ Some us → ExpandAllTo us cs) → unexpanded_all k rules (more c cs) ≡ Some ts → ExpandAllTo ts (more c cs)
     unfolding unexpanded_all
     from_more c cs ts one others e =
-        let p = cons-some (unexpanded k rules c) (unexpanded_all k rules cs) ts e in
+        let p = cons_some (unexpanded k rules c) (unexpanded_all k rules cs) ts e in
         let is = p.4 in
         rw (← is) (more_exact p.0 p.1 c cs (one p.0 p.2) (others p.1 p.3))
 
@@ -216,8 +216,8 @@ module _ (k : ℕ) (rules : List Rule) where
             record { good = b.good; others = b.others; fills = λ arguments values h. let x = b.fills arguments values h in cc }
 
     -- and in a child and those behind it
-    found-more : (u : Tree) (us : Trees) (c : Tree) (cs : Trees) (o : Option (List Bound)) (bs : List Bound) → ((n : ℕ) → stands n u ≡ true → stands_any n us ≡ false) → ((xs : List Bound) → o ≡ Some xs → BindsOne k rules u c xs) → ((ys : List Bound) → found_all k rules cs us ≡ Some ys → BindsAll k rules us cs ys) → both o (found_all k rules cs us) ≡ Some bs → BindsAll k rules (more u us) (more c cs) bs
-    found-more u us c cs o bs once one rest e =
+    found_more : (u : Tree) (us : Trees) (c : Tree) (cs : Trees) (o : Option (List Bound)) (bs : List Bound) → ((n : ℕ) → stands n u ≡ true → stands_any n us ≡ false) → ((xs : List Bound) → o ≡ Some xs → BindsOne k rules u c xs) → ((ys : List Bound) → found_all k rules cs us ≡ Some ys → BindsAll k rules us cs ys) → both o (found_all k rules cs us) ≡ Some bs → BindsAll k rules (more u us) (more c cs) bs
+    found_more u us c cs o bs once one rest e =
         let p = both_some o (found_all k rules cs us) bs e in
         let is = p.4 in
         rw (← is) (more_binds k rules u us c cs p.0 p.1 once (one p.0 p.2) (rest p.1 p.3))
@@ -260,13 +260,13 @@ module _ (k : ℕ) (rules : List Rule) where
       all_exact none (more u us) bs h s e = apart (cc)
       all_exact (more c cs) none bs h s e = apart (cc)
       all_exact (more c cs) (more (atom v) us) bs h s e =
-          found-more (atom v) us c cs (if_number v c) bs s.2 (λ xs. atom_binds k rules v c xs) (λ ys. all_exact cs us ys h.1 s.1) e
+          found_more (atom v) us c cs (if_number v c) bs s.2 (λ xs. atom_binds k rules v c xs) (λ ys. all_exact cs us ys h.1 s.1) e
       all_exact (more c cs) (more (variable n) us) bs h s e =
-          found-more (variable n) us c cs (single n (unexpanded k rules c)) bs s.2 (λ xs. variable_binds k rules n c (unexpanded k rules c) xs (λ t. tree_exact c t h.0)) (λ ys. all_exact cs us ys h.1 s.1) e
+          found_more (variable n) us c cs (single n (unexpanded k rules c)) bs s.2 (λ xs. variable_binds k rules n c (unexpanded k rules c) xs (λ t. tree_exact c t h.0)) (λ ys. all_exact cs us ys h.1 s.1) e
       all_exact (more c cs) (more (body j u) us) bs h s e = apart (cc)
       all_exact (more c cs) (more (head j r ds u) us) bs h s e = apart (cc)
       all_exact (more c cs) (more (form l vs) us) bs h s e =
-          found-more (form l vs) us c cs (found k rules c l vs) bs s.2 (λ xs. found_exact c l vs xs h.0 s.0.3) (λ ys. all_exact cs us ys h.1 s.1) e
+          found_more (form l vs) us c cs (found k rules c l vs) bs s.2 (λ xs. found_exact c l vs xs h.0 s.0.3) (λ ys. all_exact cs us ys h.1 s.1) e
 
 -- what unexpansion gives expands to what was given
 pub exact : UnexpansionIsExact

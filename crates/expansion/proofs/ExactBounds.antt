@@ -16,22 +16,22 @@ first_of None p = p
 first_of (Some t) p = Some t
 
 -- of two lists of bounds, the first goes first
-lookup-both : (n : ℕ) (bs cs : List Bound) → lookup n (bs ++ cs) ≡ first_of (lookup n bs) (lookup n cs)
+lookup_both : (n : ℕ) (bs cs : List Bound) → lookup n (bs ++ cs) ≡ first_of (lookup n bs) (lookup n cs)
 unfolding lookup
-lookup-both n [] cs = refl
-lookup-both n (b ∷ bs) cs = by_test (eqb b.index n) (lookup-both n bs cs)
+lookup_both n [] cs = refl
+lookup_both n (b ∷ bs) cs = by_test (eqb b.index n) (lookup_both n bs cs)
   where
     by_test : (x : Bool) → lookup n (bs ++ cs) ≡ first_of (lookup n bs) (lookup n cs) → cond x (Some b.value) (lookup n (bs ++ cs)) ≡ first_of (cond x (Some b.value) (lookup n bs)) (lookup n cs)
     by_test true h = refl
     by_test false h = h
 
 -- a bound of the first list is one of both
-lookup-left : (n : ℕ) (bs cs : List Bound) (v : Tree) → lookup n bs ≡ Some v → lookup n (bs ++ cs) ≡ Some v
-lookup-left n bs cs v e = lookup-both n bs cs ∙ ap (λ o. first_of o (lookup n cs)) e
+lookup_left : (n : ℕ) (bs cs : List Bound) (v : Tree) → lookup n bs ≡ Some v → lookup n (bs ++ cs) ≡ Some v
+lookup_left n bs cs v e = lookup_both n bs cs ∙ ap (λ o. first_of o (lookup n cs)) e
 
 -- a variable that the first list has not is looked for in the second
-lookup-right : (n : ℕ) (bs cs : List Bound) → lookup n bs ≡ None → lookup n (bs ++ cs) ≡ lookup n cs
-lookup-right n bs cs e = lookup-both n bs cs ∙ ap (λ o. first_of o (lookup n cs)) e
+lookup_right : (n : ℕ) (bs cs : List Bound) → lookup n bs ≡ None → lookup n (bs ++ cs) ≡ lookup n cs
+lookup_right n bs cs e = lookup_both n bs cs ∙ ap (λ o. first_of o (lookup n cs)) e
 
 -- what is given by two matchings is given by each
 pub both_some : (p q : Option (List Bound)) (bs : List Bound) → both p q ≡ Some bs → (xs : List Bound) × (ys : List Bound) × (p ≡ Some xs) × (q ≡ Some ys) × (xs ++ ys ≡ bs)
@@ -104,11 +104,11 @@ module _ (k : ℕ) (rules : List Rule) where
   unfolding instance stands
   more_binds u us c cs bs ds once one rest =
       record {
-        good = λ n v e. in_either n v (lookup n bs) refl (sym (lookup-both n bs ds) ∙ e);
-        others = λ n e. let p = or_parts (stands n u) (stands_any n us) e in lookup-right n bs ds (one.others n p.0) ∙ rest.others n p.1;
+        good = λ n v e. in_either n v (lookup n bs) refl (sym (lookup_both n bs ds) ∙ e);
+        others = λ n e. let p = or_parts (stands n u) (stands_any n us) e in lookup_right n bs ds (one.others n p.0) ∙ rest.others n p.1;
         fills = λ arguments values h.
-            let x = one.fills arguments values (λ n v st e. h n v (or_left _ _ st) (lookup-left n bs ds v e)) in
-            let y = rest.fills arguments values (λ n v st e. h n v (or_right _ _ st) (lookup-right n bs ds (one.others n (missing n st)) ∙ e)) in
+            let x = one.fills arguments values (λ n v st e. h n v (or_left _ _ st) (lookup_left n bs ds v e)) in
+            let y = rest.fills arguments values (λ n v st e. h n v (or_right _ _ st) (lookup_right n bs ds (one.others n (missing n st)) ∙ e)) in
             cc;
       }
     where

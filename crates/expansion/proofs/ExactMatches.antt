@@ -9,13 +9,13 @@ use Rattle.expansion.specs.Laws.{SoundRules}
 use Rattle.expansion.proofs.Taking.{Matched, matched_from}
 
 -- if a rule of the list fits, some rule matches
-matching-some : (n i : ℕ) (rules : List Rule) (rule : Rule) (l : ℕ) (ts : Trees) → rule_at i rules ≡ Some rule → fits rule l ts ≡ true → (m : Numbered) × (matching n rules l ts ≡ Some m)
+matching_some : (n i : ℕ) (rules : List Rule) (rule : Rule) (l : ℕ) (ts : Trees) → rule_at i rules ≡ Some rule → fits rule l ts ≡ true → (m : Numbered) × (matching n rules l ts ≡ Some m)
 unfolding matching rule_at
-matching-some n i [] rule l ts e h = apart (cc)
-matching-some n zero (first ∷ rules) rule l ts e h =
+matching_some n i [] rule l ts e h = apart (cc)
+matching_some n zero (first ∷ rules) rule l ts e h =
     let is : first ≡ rule = cc in
     (record { number = n; rule = first }, ap (λ b. cond b (Some (record { number = n; rule = first })) (matching (suc n) rules l ts)) (ap (λ x. fits x l ts) is ∙ h))
-matching-some n (suc i) (first ∷ rules) rule l ts e h = by_test (fits first l ts) (matching-some (suc n) i rules rule l ts e h)
+matching_some n (suc i) (first ∷ rules) rule l ts e h = by_test (fits first l ts) (matching_some (suc n) i rules rule l ts e h)
   where
     by_test : (b : Bool) → (m : Numbered) × (matching (suc n) rules l ts ≡ Some m) → (m : Numbered) × (cond b (Some (record { number = n; rule = first })) (matching (suc n) rules l ts) ≡ Some m)
     by_test true rest = (record { number = n; rule = first }, refl)
@@ -35,8 +35,8 @@ matching_one k rules r rule l ts m sound e h found is =
     numbered_is (matching 0 rules l ts) m r rule found number (cc)
 
 -- the left side of a rule matches that rule
-pub matching-left : (k : ℕ) (rules : List Rule) (r : ℕ) (rule : Rule) (ts : Trees) → SoundRules k rules → rule_at r rules ≡ Some rule → takes_all rule.arguments ts ≡ true → matching 0 rules rule.label ts ≡ Some (record { number = r; rule = rule })
-matching-left k rules r rule ts sound e takes =
+pub matching_left : (k : ℕ) (rules : List Rule) (r : ℕ) (rule : Rule) (ts : Trees) → SoundRules k rules → rule_at r rules ≡ Some rule → takes_all rule.arguments ts ≡ true → matching 0 rules rule.label ts ≡ Some (record { number = r; rule = rule })
+matching_left k rules r rule ts sound e takes =
     let h : fits rule rule.label ts ≡ true = and_from _ _ (eq-eqb _ _ refl) takes in
-    let found = matching-some 0 r rules rule rule.label ts e h in
+    let found = matching_some 0 r rules rule rule.label ts e h in
     matching_one k rules r rule rule.label ts found.0 sound e h found.1 (matched_from 0 rules rule.label ts found.0 found.1)

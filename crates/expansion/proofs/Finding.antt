@@ -84,13 +84,13 @@ module _ (k : ℕ) (rules : List Rule) (arguments ts es : Trees) where
   found_one t (form l us) = found k rules t l us
 
   -- the first child is matched, then the others
-  found-more : (t : Tree) (vs : Trees) (u : Tree) (us : Trees) → found_all k rules (more t vs) (more u us) ≡ both (found_one t u) (found_all k rules vs us)
+  found_more : (t : Tree) (vs : Trees) (u : Tree) (us : Trees) → found_all k rules (more t vs) (more u us) ≡ both (found_one t u) (found_all k rules vs us)
   unfolding found_all
-  found-more t vs (atom v) us = refl
-  found-more t vs (variable n) us = refl
-  found-more t vs (body j u) us = refl
-  found-more t vs (head j r ds u) us = refl
-  found-more t vs (form l ws) us = refl
+  found_more t vs (atom v) us = refl
+  found_more t vs (variable n) us = refl
+  found_more t vs (body j u) us = refl
+  found_more t vs (head j r ds u) us = refl
+  found_more t vs (form l ws) us = refl
 
   -- the matching of the filled-in right side finds the variables with their trees
   mutual
@@ -107,16 +107,16 @@ module _ (k : ℕ) (rules : List Rule) (arguments ts es : Trees) where
     found_all_lem none h back = refl
     found_all_lem (more u us) h back =
         let vs = instances k arguments es us in
-        found-more (instance k arguments es u) vs u us
+        found_more (instance k arguments es u) vs u us
         ∙ ap (λ o. both o (found_all k rules vs us)) (found_one_lem u h.0 (λ n s. back n (or_left (stands n u) (stands_any n us) s)))
         ∙ ap (both (Some (bindings_of u))) (found_all_lem us h.1 (λ n s. back n (or_right (stands n u) (stands_any n us) s)))
 
   -- so does that of a whole right side, and each variable that stands in it is looked up as its tree
-  pub found-root : (right : Tree) → (l : ℕ) × (us : Trees) × (right ≡ form l us) → Right k right → ((n : ℕ) → stands n right ≡ true → Returns n) → (bs : List Bound) × (found k rules (instance k arguments es right) (root_label right) (root_children right) ≡ Some bs) × ((n : ℕ) → stands n right ≡ true → lookup n bs ≡ Some (value_of n arguments ts))
+  pub found_root : (right : Tree) → (l : ℕ) × (us : Trees) × (right ≡ form l us) → Right k right → ((n : ℕ) → stands n right ≡ true → Returns n) → (bs : List Bound) × (found k rules (instance k arguments es right) (root_label right) (root_children right) ≡ Some bs) × ((n : ℕ) → stands n right ≡ true → lookup n bs ≡ Some (value_of n arguments ts))
   unfolding instance stands Right
-  found-root (atom v) root h back = let z = root.2 in apart (cc)
-  found-root (variable n) root h back = let z = root.2 in apart (cc)
-  found-root (body j u) root h back = absurd h
-  found-root (head j r ds u) root h back = absurd h
-  found-root (form l us) root h back =
+  found_root (atom v) root h back = let z = root.2 in apart (cc)
+  found_root (variable n) root h back = let z = root.2 in apart (cc)
+  found_root (body j u) root h back = absurd h
+  found_root (head j r ds u) root h back = absurd h
+  found_root (form l us) root h back =
       (bindings us, found-form l (instances k arguments es us) us ∙ found_all_lem us h.3 back, λ n s. looked us h.3 n ∙ ap (λ b. cond b (Some (value_of n arguments ts)) None) s)

@@ -7,7 +7,7 @@ use Rattle.terms.specs.declared.words.Node.{Node}
 use Rattle.terms.specs.declared.words.Node.TheVariants.{Atom, Variable, Body, Head, Form}
 use Rattle.terms.specs.Words.{word, head_payload, node_of}
 use Rattle.terms.specs.Trees.{Tree, Trees, atom, variable, body, head, form, none, more, count, written, written_all, put, read}
-use Rattle.terms.proofs.Nodes.{Stands, stands as stands-for, node_variable}
+use Rattle.terms.proofs.Nodes.{Stands, stands as stands_for, node_variable}
 use Rattle.terms.proofs.Shapes.{word_of}
 use Rattle.lists.specs.Sides.{is_variable, is_atom, is_argument}
 use Rattle.lists.specs.Laws.{OncePlaced}
@@ -78,16 +78,16 @@ read_leaf w ws ts (Some (Head k r d)) n s h e i l = apart (cc)
 read_leaf w ws ts (Some (Form m c)) n s h e i l = apart (cc)
 
 -- a run of arguments is read as leaves
-pub read-arguments : (ws : List ℕ) → AllByRecursion (λ w. is_argument w ≡ true) ws → ReadAs ws
+pub read_arguments : (ws : List ℕ) → AllByRecursion (λ w. is_argument w ≡ true) ws → ReadAs ws
 unfolding read
-read-arguments [] a = (none, refl, refl, tt)
-read-arguments (w ∷ ws) a =
-    let r = read-arguments ws a.1 in
-    read_leaf w ws r.0 (node_of w) refl (stands-for w) a.0 r.1 r.2 r.3
+read_arguments [] a = (none, refl, refl, tt)
+read_arguments (w ∷ ws) a =
+    let r = read_arguments ws a.1 in
+    read_leaf w ws r.0 (node_of w) refl (stands_for w) a.0 r.1 r.2 r.3
 
 -- what stands among the words stands behind one more
-pub has-behind : (x : ℕ) (xs : List ℕ) (w : ℕ) → ContainsAt xs w → ContainsAt (x ∷ xs) w
-has-behind x xs w h = (suc h.0, omega (arith, h.1), λ d. h.2 d)
+pub has_behind : (x : ℕ) (xs : List ℕ) (w : ℕ) → ContainsAt xs w → ContainsAt (x ∷ xs) w
+has_behind x xs w h = (suc h.0, omega (arith, h.1), λ d. h.2 d)
 
 -- the word of a variable that stands in a tree is among its words
 mutual
@@ -96,11 +96,11 @@ mutual
   pub stands-written : (n : ℕ) (t : Tree) → stands n t ≡ true → ContainsAt (written t) (word 2 n)
   stands-written n (atom v) e = apart (cc)
   stands-written n (variable m) e = (0, omega arith, λ d. ap (word 2) (eqb-true m n e))
-  stands-written n (body k t) e = has-behind (word 3 k) (written t) (word 2 n) (stands-written n t e)
+  stands-written n (body k t) e = has_behind (word 3 k) (written t) (word 2 n) (stands-written n t e)
   stands-written n (head k r ds t) e =
-      has-behind (word 4 (head_payload k r (count ds))) (written_all ds ++ written t) (word 2 n)
+      has_behind (word 4 (head_payload k r (count ds))) (written_all ds ++ written t) (word 2 n)
       (⊎_elim (λ h. has_append_left (written_all ds) (written t) (word 2 n) (stands_all_written n ds h)) (λ h. has_append_right (written_all ds) (written t) (word 2 n) (stands-written n t h)) (or_cases (stands_any n ds) (stands n t) e))
-  stands-written n (form l ts) e = has-behind (word l (count ts)) (written_all ts) (word 2 n) (stands_all_written n ts e)
+  stands-written n (form l ts) e = has_behind (word l (count ts)) (written_all ts) (word 2 n) (stands_all_written n ts e)
 
   pub stands_all_written : (n : ℕ) (ts : Trees) → stands_any n ts ≡ true → ContainsAt (written_all ts) (word 2 n)
   stands_all_written n none e = apart (cc)
@@ -108,38 +108,38 @@ mutual
       ⊎_elim (λ h. has_append_left (written t) (written_all ts) (word 2 n) (stands-written n t h)) (λ h. has_append_right (written t) (written_all ts) (word 2 n) (stands_all_written n ts h)) (or_cases (stands n t) (stands_any n ts) e)
 
 -- the word of a variable among the words of leaves is one that stands there
-pub has-stands : (n : ℕ) (ts : Trees) → Leaves ts → (i : ℕ) → i < length (words ts) → get_or (words ts) i 0 ≡ word 2 n → stands_any n ts ≡ true
+pub has_stands : (n : ℕ) (ts : Trees) → Leaves ts → (i : ℕ) → i < length (words ts) → get_or (words ts) i 0 ≡ word 2 n → stands_any n ts ≡ true
 unfolding stands stands_any
-has-stands n none l i h e = absurd (omega arith)
-has-stands n (more (atom v) ts) l zero h e = absurd (omega (arith, l.0))
-has-stands n (more (variable m) ts) l zero h e = let is : m ≡ n = omega arith in or_left (eqb m n) (stands_any n ts) (eq-eqb m n is)
-has-stands n (more (atom v) ts) l (suc i) h e = has-stands n ts l.1 i (omega arith) e
-has-stands n (more (variable m) ts) l (suc i) h e = or_right (eqb m n) (stands_any n ts) (has-stands n ts l.1 i (omega arith) e)
-has-stands n (more (body k t) ts) l i h e = absurd l.0
-has-stands n (more (head k r ds t) ts) l i h e = absurd l.0
-has-stands n (more (form m us) ts) l i h e = absurd l.0
+has_stands n none l i h e = absurd (omega arith)
+has_stands n (more (atom v) ts) l zero h e = absurd (omega (arith, l.0))
+has_stands n (more (variable m) ts) l zero h e = let is : m ≡ n = omega arith in or_left (eqb m n) (stands_any n ts) (eq-eqb m n is)
+has_stands n (more (atom v) ts) l (suc i) h e = has_stands n ts l.1 i (omega arith) e
+has_stands n (more (variable m) ts) l (suc i) h e = or_right (eqb m n) (stands_any n ts) (has_stands n ts l.1 i (omega arith) e)
+has_stands n (more (body k t) ts) l i h e = absurd l.0
+has_stands n (more (head k r ds t) ts) l i h e = absurd l.0
+has_stands n (more (form m us) ts) l i h e = absurd l.0
 
 -- variables once in a run are once behind its first word
-pub once-behind : (w : ℕ) (ws : List ℕ) → OncePlaced (w ∷ ws) → OncePlaced ws
-once-behind w ws o i j lt l v e = o (suc i) (suc j) (omega arith) (omega arith) v e
+pub once_behind : (w : ℕ) (ws : List ℕ) → OncePlaced (w ∷ ws) → OncePlaced ws
+once_behind w ws o i j lt l v e = o (suc i) (suc j) (omega arith) (omega arith) v e
 
 -- the word of a variable is one
-pub variable-word : (n : ℕ) → n < 8 → is_variable (node_of (word 2 n)) ≡ true
-variable-word n h = ap is_variable (node_variable n h)
+pub variable_word : (n : ℕ) → n < 8 → is_variable (node_of (word 2 n)) ≡ true
+variable_word n h = ap is_variable (node_variable n h)
 
 -- leaves whose variables are once are the arguments of a left side
 pub arguments_of : (ts : Trees) → Leaves ts → OncePlaced (words ts) → Arguments ts
 unfolding Arguments
 arguments_of none l o = tt
-arguments_of (more (atom v) ts) l o = (l.0, arguments_of ts l.1 (once-behind (word 0 v) (words ts) o))
-arguments_of (more (variable n) ts) l o = (l.0, lone (stands_any n ts) refl, arguments_of ts l.1 (once-behind (word 2 n) (words ts) o))
+arguments_of (more (atom v) ts) l o = (l.0, arguments_of ts l.1 (once_behind (word 0 v) (words ts) o))
+arguments_of (more (variable n) ts) l o = (l.0, lone (stands_any n ts) refl, arguments_of ts l.1 (once_behind (word 2 n) (words ts) o))
   where
     lone : (b : Bool) → stands_any n ts ≡ b → b ≡ false
     lone false e = refl
     lone true e =
         let H : List ℕ → Type 0 = λ ws. ContainsAt ws (word 2 n) in
         let h = subst H (leaves_written ts l.1) (stands_all_written n ts e) in
-        absurd (o 0 (suc h.0) (omega arith) (omega (arith, h.1)) (variable-word n l.0) (sym (h.2 0)))
+        absurd (o 0 (suc h.0) (omega arith) (omega (arith, h.1)) (variable_word n l.0) (sym (h.2 0)))
 arguments_of (more (body k t) ts) l o = absurd l.0
 arguments_of (more (head k r ds t) ts) l o = absurd l.0
 arguments_of (more (form m us) ts) l o = absurd l.0

@@ -9,10 +9,10 @@ use Rattle.expansion.specs.Matches.{Numbered, matching, lost}
 use Rattle.expansion.specs.Offences.{Offence, mark, unmatched, later, or_else, offence, offences, offences_kept}
 
 -- without an offence seen from further on there is none
-none-later : (n : ℕ) (o : Option Offence) → later n o ≡ None → o ≡ None
-none-later n None e = refl
-none-later n (Some (mark place)) e = apart (cc)
-none-later n (Some (unmatched place)) e = apart (cc)
+none_later : (n : ℕ) (o : Option Offence) → later n o ≡ None → o ≡ None
+none_later n None e = refl
+none_later n (Some (mark place)) e = apart (cc)
+none_later n (Some (unmatched place)) e = apart (cc)
 
 -- without an offence in either there is none in both
 none_either : (o p : Option Offence) → or_else o p ≡ None → (o ≡ None) × (p ≡ None)
@@ -25,18 +25,18 @@ at_mark n o true = Some (mark 0)
 at_mark n o false = later n o
 
 -- a mark that does not offend is of a higher layer
-none-mark : (j k n : ℕ) (o : Option Offence) → at_mark n o (leb j k) ≡ None → (k < j) × (o ≡ None)
-none-mark j k n o e = by_test (leb j k) refl e
+none_mark : (j k n : ℕ) (o : Option Offence) → at_mark n o (leb j k) ≡ None → (k < j) × (o ≡ None)
+none_mark j k n o e = by_test (leb j k) refl e
   where
     by_test : (b : Bool) → leb j k ≡ b → at_mark n o b ≡ None → (k < j) × (o ≡ None)
     by_test true h f = apart (cc)
-    by_test false h f = (leb-false j k h, none-later n o f)
+    by_test false h f = (leb-false j k h, none_later n o f)
 
 module _ (k : ℕ) (rules : List Rule) where
   -- nor does anything inside a body mark that does not offend
   pub body_quiet : (j : ℕ) (t : Tree) → offence k rules (body j t) ≡ None → (k < j) × (offence k rules t ≡ None)
   unfolding offence
-  body_quiet j t e = none-mark j k 1 (offence k rules t) (same (leb j k) ∙ e)
+  body_quiet j t e = none_mark j k 1 (offence k rules t) (same (leb j k) ∙ e)
     where
       same : (b : Bool) → at_mark 1 (offence k rules t) b ≡ elim b [ true ↦ Some (mark 0) | false ↦ later 1 (offence k rules t) ]
       same true = refl
@@ -45,7 +45,7 @@ module _ (k : ℕ) (rules : List Rule) where
   -- nor inside a head mark
   pub head_quiet : (j r : ℕ) (ds : Trees) (t : Tree) → offence k rules (head j r ds t) ≡ None → (k < j) × (offence k rules t ≡ None)
   unfolding offence
-  head_quiet j r ds t e = none-mark j k n (offence k rules t) (same (leb j k) ∙ e)
+  head_quiet j r ds t e = none_mark j k n (offence k rules t) (same (leb j k) ∙ e)
     where
       n : ℕ
       n = 1 + length (written_all ds)
@@ -80,30 +80,30 @@ module _ (k : ℕ) (rules : List Rule) where
   -- a form that does not offend: the layer does not own it and no child offends, or a rule matches and no child offends that the rule keeps
   pub data QuietForm (l : ℕ) (ts : Trees) : Type 0 where
     unowned : owned k l ≡ false → offences k rules ts ≡ None → QuietForm l ts
-    takes-rule : (m : Numbered) → owned k l ≡ true → matching 0 rules l ts ≡ Some m → offences_kept k rules m.rule.right m.rule.arguments ts ≡ None → QuietForm l ts
+    takes_rule : (m : Numbered) → owned k l ≡ true → matching 0 rules l ts ≡ Some m → offences_kept k rules m.rule.right m.rule.arguments ts ≡ None → QuietForm l ts
 
   -- which of the two it is
   pub form_quiet : (l : ℕ) (ts : Trees) → offence k rules (form l ts) ≡ None → QuietForm l ts
   form_quiet l ts e = by_test (owned k l) refl (matching 0 rules l ts) refl (sym (form-offence l ts) ∙ e)
     where
       by_test : (b : Bool) → owned k l ≡ b → (o : Option Numbered) → matching 0 rules l ts ≡ o → form_offence ts b o ≡ None → QuietForm l ts
-      by_test false h o g f = unowned h (none-later 1 (offences k rules ts) f)
+      by_test false h o g f = unowned h (none_later 1 (offences k rules ts) f)
       by_test true h None g f = apart (cc)
-      by_test true h (Some m) g f = takes-rule m h g (none-later 1 (offences_kept k rules m.rule.right m.rule.arguments ts) f)
+      by_test true h (Some m) g f = takes_rule m h g (none_later 1 (offences_kept k rules m.rule.right m.rule.arguments ts) f)
 
   -- of children none of which offends, the first does not, and none of the others
   pub more_quiet : (t : Tree) (ts : Trees) → offences k rules (more t ts) ≡ None → (offence k rules t ≡ None) × (offences k rules ts ≡ None)
   unfolding offences
   more_quiet t ts e =
       let both = none_either (offence k rules t) (later (length (written t)) (offences k rules ts)) e in
-      (both.0, none-later (length (written t)) (offences k rules ts) both.1)
+      (both.0, none_later (length (written t)) (offences k rules ts) both.1)
 
   -- the same of children that a rule keeps
   pub kept_quiet : (right a : Tree) (rest : Trees) (t : Tree) (ts : Trees) → offences_kept k rules right (more a rest) (more t ts) ≡ None → (lost right a ≡ false → offence k rules t ≡ None) × (offences_kept k rules right rest ts ≡ None)
   unfolding offences
   kept_quiet right a rest t ts e =
       let both = none_either (elim (lost right a) [ true ↦ None | false ↦ offence k rules t ]) (later (length (written t)) (offences_kept k rules right rest ts)) e in
-      (λ h. by_test (lost right a) h both.0, none-later (length (written t)) (offences_kept k rules right rest ts) both.1)
+      (λ h. by_test (lost right a) h both.0, none_later (length (written t)) (offences_kept k rules right rest ts) both.1)
     where
       by_test : (b : Bool) → b ≡ false → ◌≡◌ {A = Option Offence} (elim b [ true ↦ None | false ↦ offence k rules t ]) None → offence k rules t ≡ None
       by_test true h f = apart (cc)

@@ -9,11 +9,11 @@ use Rattle.expansion.specs.Laws.{Right, RightAll, SoundRules, MarksOffIsPlain}
 use Rattle.expansion.proofs.Taking.{matched_from}
 
 -- the value of a variable, with the marks off
-bare-value : (n : ℕ) (arguments values : Trees) → bare (value_of n arguments values) ≡ value_of n arguments (bare_all values)
+bare_value : (n : ℕ) (arguments values : Trees) → bare (value_of n arguments values) ≡ value_of n arguments (bare_all values)
 unfolding value_of bare
-bare-value n none values = refl
-bare-value n (more a rest) none = refl
-bare-value n (more a rest) (more t ts) = by_test (is_variable_of n a) (bare-value n rest ts)
+bare_value n none values = refl
+bare_value n (more a rest) none = refl
+bare_value n (more a rest) (more t ts) = by_test (is_variable_of n a) (bare_value n rest ts)
   where
     by_test : (b : Bool) → bare (value_of n rest ts) ≡ value_of n rest (bare_all ts) → bare (cond b t (value_of n rest ts)) ≡ cond b (bare t) (value_of n rest (bare_all ts))
     by_test true h = refl
@@ -25,7 +25,7 @@ mutual
   -- a right side filled in, with the marks off
   bare-instance : (k : ℕ) (arguments values : Trees) (u : Tree) → Right k u → bare (instance k arguments values u) ≡ plain_instance arguments (bare_all values) u
   bare-instance k arguments values (atom v) h = refl
-  bare-instance k arguments values (variable n) h = bare-value n arguments values
+  bare-instance k arguments values (variable n) h = bare_value n arguments values
   bare-instance k arguments values (body j u) h = absurd h
   bare-instance k arguments values (head j r ds u) h = absurd h
   bare-instance k arguments values (form l us) h = ap (form l) (bare-instances k arguments values us h.3)
@@ -59,10 +59,10 @@ mutual
 
 module _ (k : ℕ) (rules : List Rule) (sound : SoundRules k rules) where
   -- an owned form takes its rule, or stays
-  bare-taken : (l : ℕ) (ts : Trees) → UnmarkedAll ts → bare_all (expanded_all k rules ts) ≡ plain_all k rules ts → (o : Option Numbered) → matching 0 rules l ts ≡ o → bare (taken_if k l ts (expanded_all k rules ts) o) ≡ plain_taken_if l ts (plain_all k rules ts) o
+  bare_taken : (l : ℕ) (ts : Trees) → UnmarkedAll ts → bare_all (expanded_all k rules ts) ≡ plain_all k rules ts → (o : Option Numbered) → matching 0 rules l ts ≡ o → bare (taken_if k l ts (expanded_all k rules ts) o) ≡ plain_taken_if l ts (plain_all k rules ts) o
   unfolding bare
-  bare-taken l ts unmarked inside None e = ap (form l) (all_unmarked ts unmarked)
-  bare-taken l ts unmarked inside (Some m) e =
+  bare_taken l ts unmarked inside None e = ap (form l) (all_unmarked ts unmarked)
+  bare_taken l ts unmarked inside (Some m) e =
       let is = matched_from 0 rules l ts m e in
       let rule = m.rule in
       bare-instance k rule.arguments (expanded_all k rules ts) rule.right (sound.each is.0 rule is.2).right
@@ -75,7 +75,7 @@ module _ (k : ℕ) (rules : List Rule) (sound : SoundRules k rules) where
     where
       by_test : (b : Bool) → bare (elim b [ false ↦ form l (expanded_all k rules ts) | true ↦ taken_if k l ts (expanded_all k rules ts) (matching 0 rules l ts) ]) ≡ elim b [ false ↦ form l (plain_all k rules ts) | true ↦ plain_taken_if l ts (plain_all k rules ts) (matching 0 rules l ts) ]
       by_test false = ap (form l) inside
-      by_test true = bare-taken l ts unmarked inside (matching 0 rules l ts) refl
+      by_test true = bare_taken l ts unmarked inside (matching 0 rules l ts) refl
 
   mutual
     unfolding expanded plain bare Unmarked

@@ -19,17 +19,17 @@ use Rattle.expansion.specs.Rules.{Rule, trees_of, tree_of, rule_left, rule_of, r
 use Rattle.expansion.specs.Matches.{takes, takes_all, fits, rule_at}
 use Rattle.expansion.specs.Laws.{SoundRule, Right, ProperListsAreSound}
 use Rattle.expansion.proofs.Taking.{is_number_lem}
-use Rattle.expansion.proofs.Leaves.{Leaf, Leaves, words, words_count, read-arguments, stands-written, has-stands, once-behind, variable-word, arguments_of}
-use Rattle.expansion.proofs.Rights.{right-small, right_made}
+use Rattle.expansion.proofs.Leaves.{Leaf, Leaves, words, words_count, read_arguments, stands-written, has_stands, once_behind, variable_word, arguments_of}
+use Rattle.expansion.proofs.Rights.{right_small, right_made}
 
 -- the label is owned, and the form has at most 8 children
 abbrev Owned : ℕ → Form → Type 0
 Owned k f = (32 + 32 * k ≤ f.label) × (f.label ≤ 63 + 32 * k) × (f.count ≤ 8)
 
 -- so it is with every declared form
-forms-owned : (k before : ℕ) (forms : List Form) → Rising k before forms → AllByRecursion (Owned k) forms
-forms-owned k before [] r = tt
-forms-owned k before (f ∷ fs) r = ((r.0, r.1, r.3), forms-owned k f.label fs r.4)
+forms_owned : (k before : ℕ) (forms : List Form) → Rising k before forms → AllByRecursion (Owned k) forms
+forms_owned k before [] r = tt
+forms_owned k before (f ∷ fs) r = ((r.0, r.1, r.3), forms_owned k f.label fs r.4)
 
 -- what two sides say of the rule that they spell
 pub record Spells (k : ℕ) (s : Sides) (rule : Rule) : Type 0 where
@@ -50,21 +50,21 @@ trees_read : (ws : List ℕ) (ts : Trees) → read ws ≡ Some ts → trees_of w
 trees_read ws ts e = ap (λ (o : Option Trees). elim o [ None ↦ none | Some us ↦ us ]) e
 
 -- the rule that two sides spell, by what they are read as
-rule-read : (s : Sides) (w : ℕ) (args : List ℕ) (ts : Trees) (t : Tree) → s.left ≡ w ∷ args → read args ≡ Some ts → read s.right ≡ Some (more t none) → rule_of s ≡ record { label = w / 16777216; arguments = ts; right = t }
+rule_read : (s : Sides) (w : ℕ) (args : List ℕ) (ts : Trees) (t : Tree) → s.left ≡ w ∷ args → read args ≡ Some ts → read s.right ≡ Some (more t none) → rule_of s ≡ record { label = w / 16777216; arguments = ts; right = t }
 unfolding rule_of
-rule-read s w args ts t l e f =
+rule_read s w args ts t l e f =
     (λ i. rule_left (l i) (tree_of (trees_read s.right (more t none) f i))) ∙ (λ i. record { label = w / 16777216; arguments = trees_read args ts e i; right = t })
 
 -- two sides of a proper list spell their rule
 spells : (k : ℕ) (forms : List Form) (s : Sides) → Rising k 0 forms → LeftSide forms s.left → RightSide k s.right → Spells k s (rule_of s)
 spells k forms s rising l r =
     let f : Form = l.0 in
-    let own : Owned k f = all-has (Owned k) forms f (forms-owned k 0 forms rising) l.2 in
-    let a = read-arguments l.1 l.5 in
+    let own : Owned k f = all-has (Owned k) forms f (forms_owned k 0 forms rising) l.2 in
+    let a = read_arguments l.1 l.5 in
     let t : Tree = form r.0 r.1 in
     let label : form_word f / 16777216 ≡ f.label = omega (arith, own.2) in
     let first : word (form_word f / 16777216) f.count ≡ form_word f = omega (arith, label) in
-    let is = rule-read s (form_word f) l.1 a.0 t l.3 a.1 (ap read (sym r.3) ∙ read-written t true r.2) in
+    let is = rule_read s (form_word f) l.1 a.0 t l.3 a.1 (ap read (sym r.3) ∙ read-written t true r.2) in
     subst (Spells k s) (sym is) (record {
       size = f.count;
       left_is = l.3 ∙ (λ i. sym first i ∷ sym a.2 i);
@@ -81,29 +81,29 @@ spells k forms s rising l r =
 
 -- a rule that is spelled so, with each variable once, and on the left if on the right, is sound
 rule_sound : (k : ℕ) (s : Sides) (rule : Rule) → Spells k s rule → OncePlaced s.left → OncePlaced s.right → FromLeft s.left s.right → SoundRule k rule
-rule_sound k s rule p left-once right-once from =
+rule_sound k s rule p left_once right_once from =
     record {
       own = and_from (leb (32 + 32 * k) rule.label) (leb rule.label (63 + 32 * k)) (le-leb (32 + 32 * k) rule.label p.low) (le-leb rule.label (63 + 32 * k) p.high);
       few = omega (arith, p.counted, p.few);
-      arguments = arguments_of rule.arguments p.leaves (once-behind (word rule.label p.size) (words rule.arguments) (subst OncePlaced p.left_is left-once));
+      arguments = arguments_of rule.arguments p.leaves (once_behind (word rule.label p.size) (words rule.arguments) (subst OncePlaced p.left_is left_once));
       root = p.root;
       right = right;
-      from_left = λ n e. on_left n (right-small k n rule.right right e) e;
+      from_left = λ n e. on_left n (right_small k n rule.right right e) e;
     }
   where
     right : Right k rule.right
     right =
         let A : List ℕ → Type 0 = AllByRecursion (λ w. on_right k w ≡ true) in
-        right_made k rule.right p.made (subst A p.right_is p.all_right) (subst OncePlaced p.right_is right-once)
+        right_made k rule.right p.made (subst A p.right_is p.all_right) (subst OncePlaced p.right_is right_once)
 
     among : (n : ℕ) → n < 8 → (i : ℕ) → i < suc (length (words rule.arguments)) → get_or (word rule.label p.size ∷ words rule.arguments) i 0 ≡ word 2 n → stands_any n rule.arguments ≡ true
     among n h zero l e = absurd (omega (arith, p.low, p.few))
-    among n h (suc i) l e = has-stands n rule.arguments p.leaves i (omega arith) e
+    among n h (suc i) l e = has_stands n rule.arguments p.leaves i (omega arith) e
 
     on_left : (n : ℕ) → n < 8 → stands n rule.right ≡ true → stands_any n rule.arguments ≡ true
     on_left n h e =
         let H : List ℕ → Type 0 = λ ws. ContainsAt ws (word 2 n) in
-        let there = from (word 2 n) (subst H (sym p.right_is) (stands-written n rule.right e)) (variable-word n h) in
+        let there = from (word 2 n) (subst H (sym p.right_is) (stands-written n rule.right e)) (variable_word n h) in
         let here = subst H p.left_is there in
         among n h here.0 here.1 (here.2 0)
 
@@ -171,9 +171,9 @@ module _ (l : Listed) (proper : Proper l) where
   sides i = get_or l.rules i no_sides
 
   -- they spell its rule
-  rule-spelled : (i : ℕ) (rule : Rule) → rule_at i (rules_of l) ≡ Some rule → (i < length l.rules) × Spells l.layer (sides i) rule
+  rule_spelled : (i : ℕ) (rule : Rule) → rule_at i (rules_of l) ≡ Some rule → (i < length l.rules) × Spells l.layer (sides i) rule
   unfolding sides
-  rule-spelled i rule e =
+  rule_spelled i rule e =
       let r = rule_at_lem l.rules no_sides i rule e in
       let S : Rule → Type 0 = Spells l.layer (get_or l.rules i no_sides) in
       let left = All-get_or (λ s. LeftSide l.forms s.left) l.rules i no_sides r.0 proper.lefts in
@@ -184,7 +184,7 @@ module _ (l : Listed) (proper : Proper l) where
   each_sound : (i : ℕ) (rule : Rule) → rule_at i (rules_of l) ≡ Some rule → SoundRule l.layer rule
   unfolding sides
   each_sound i rule e =
-      let r = rule-spelled i rule e in
+      let r = rule_spelled i rule e in
       let once = All-get_or (λ s. OncePlaced s.left × OncePlaced s.right) l.rules i no_sides r.0 proper.once in
       let from = All-get_or (λ s. FromLeft s.left s.right) l.rules i no_sides r.0 proper.from_left in
       rule_sound l.layer (sides i) rule r.1 once.0 once.1 from
@@ -193,8 +193,8 @@ module _ (l : Listed) (proper : Proper l) where
   one_rule : (i j : ℕ) (rule other : Rule) (m : ℕ) (ts : Trees) → rule_at i (rules_of l) ≡ Some rule → rule_at j (rules_of l) ≡ Some other → fits rule m ts ≡ true → fits other m ts ≡ true → i ≡ j
   unfolding sides
   one_rule i j rule other m ts e f x y =
-      let r = rule-spelled i rule e in
-      let q = rule-spelled j other f in
+      let r = rule_spelled i rule e in
+      let q = rule_spelled j other f in
       ⊎_elim (λ same. same) (λ o. ⊎_elim
       (λ lt. absurd (proper.apart i j no_sides lt q.0 (both_overlap l.layer (sides i) (sides j) rule other m ts r.1 q.1 x y)))
       (λ lt. absurd (proper.apart j i no_sides lt r.0 (both_overlap l.layer (sides j) (sides i) other rule m ts q.1 r.1 y x)))

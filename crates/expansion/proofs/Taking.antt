@@ -75,5 +75,5 @@ module _ (k : ℕ) (rules : List Rule) (l : ℕ) (ts : Trees) where
   unowned_expands h = expanded_by_lem false (matching 0 rules l ts) h refl
 
   -- an owned form takes its rule
-  pub owned-expands : (m : Numbered) → owned k l ≡ true → matching 0 rules l ts ≡ Some m → expanded k rules (form l ts) ≡ taken k ts (expanded_all k rules ts) m
-  owned-expands m h e = expanded_by_lem true (Some m) h e
+  pub owned_expands : (m : Numbered) → owned k l ≡ true → matching 0 rules l ts ≡ Some m → expanded k rules (form l ts) ≡ taken k ts (expanded_all k rules ts) m
+  owned_expands m h e = expanded_by_lem true (Some m) h e

@@ -35,8 +35,8 @@ module _ (m : Meaning) (was : Option Tree) where
 
   -- a load of words that expand holds the expansion, and one of words that do not keeps what was held
   module _ (words : List ℕ) (r : Reply) (is : Option Tree) (given : Gives m was (load words) r is) where
-    pub load-held : (e : Expanded) → m.expansion words ≡ Ok e → (r ≡ loaded (Ok (answer_of e))) × (is ≡ Some e.term)
-    load-held e expands =
+    pub load_held : (e : Expanded) → m.expansion words ≡ Ok e → (r ≡ loaded (Ok (answer_of e))) × (is ≡ Some e.term)
+    load_held e expands =
         let a = by_load words r is given in
         let h : (a.0 ≡ Ok (answer_of e)) × (is ≡ Some e.term) = rw (expands, Loads) at a.2 in
         (a.1 ∙ ap loaded h.0, h.1)

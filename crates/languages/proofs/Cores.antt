@@ -8,7 +8,7 @@ use Rattle.languages.specs.Meaning.{Expanded, Move, moved, ended, stuck, Meaning
 use Rattle.languages.specs.Calls.{Steps, StepGives}
 use Rattle.languages.specs.Laws.{Laws, HoldsCore}
 use Rattle.languages.specs.Promise.{Request, load, step, show, Reply, Moment, held_after, Gives, HoldsCoreTerms}
-use Rattle.languages.proofs.Asked.{by_step, by_show, load-held, load_refused}
+use Rattle.languages.proofs.Asked.{by_step, by_show, load_held, load_refused}
 use Rattle.languages.proofs.Chained.{Chain, chain_front}
 
 module _ (m : Meaning) (laws : Laws m) where
@@ -34,7 +34,7 @@ module _ (m : Meaning) (laws : Laws m) where
 
   by_expansion : (was : Option Tree) (words : List ℕ) (r : Reply) (is : Option Tree) (v : Result Expanded Refusal) → m.expansion words ≡ v → HoldsCore m was → Gives m was (load words) r is → HoldsCore m is
   by_expansion was words r is (Ok e) v h given =
-      held_as is (Some e.term) (load-held m was words r is given e v).1 (laws.loads_core words e v)
+      held_as is (Some e.term) (load_held m was words r is given e v).1 (laws.loads_core words e v)
   by_expansion was words r is (Err refusal) v h given = held_as is was (load_refused m was words r is given refusal v).1 h
 
   one_core : (was : Option Tree) (q : Request) (r : Reply) (is : Option Tree) → HoldsCore m was → Gives m was q r is → HoldsCore m is

@@ -9,7 +9,7 @@ use Rattle.languages.specs.Meaning.{Expanded, Move, moved, ended, stuck, bare_mo
 use Rattle.languages.specs.Calls.{Steps}
 use Rattle.languages.specs.Laws.{Laws}
 use Rattle.languages.specs.Promise.{Request, load, step, show, Reply, loaded, stepped, shown, Moment, held_after, Gives, accepted, undisturbed, all_undisturbed, plain_next, plain_answer, plain_after, plain_answers, step_of, steps_of, images_of, answers_of, StepsAreThePlainModels}
-use Rattle.languages.proofs.Asked.{apart, by_show, load-held, load_refused}
+use Rattle.languages.proofs.Asked.{apart, by_show, load_held, load_refused}
 use Rattle.languages.proofs.Chained.{Chain, chain_front, chain_rest}
 
 abbrev images : List (ℕ × Stepped) → List ℕ
@@ -20,14 +20,14 @@ answers = map (λ s. s.1)
 
 module _ (m : Meaning) where
   -- a load that was accepted holds its expansion, and one that was not keeps what was held
-  accepted-holds : (was : Option Tree) (words : List ℕ) (r : Reply) (is : Option Tree) (v : Result Expanded Refusal) → m.expansion words ≡ v → Gives m was (load words) r is → accepted r ≡ true → (e : Expanded) × (m.expansion words ≡ Ok e) × (is ≡ Some e.term)
-  accepted-holds was words r is (Ok e) v given ok = (e, v, (load-held m was words r is given e v).1)
-  accepted-holds was words r is (Err refusal) v given ok =
+  accepted_holds : (was : Option Tree) (words : List ℕ) (r : Reply) (is : Option Tree) (v : Result Expanded Refusal) → m.expansion words ≡ v → Gives m was (load words) r is → accepted r ≡ true → (e : Expanded) × (m.expansion words ≡ Ok e) × (is ≡ Some e.term)
+  accepted_holds was words r is (Ok e) v given ok = (e, v, (load_held m was words r is given e v).1)
+  accepted_holds was words r is (Err refusal) v given ok =
       let refused = ap accepted (load_refused m was words r is given refusal v).0 in apart (cc)
 
   undisturbed_keeps : (was : Option Tree) (words : List ℕ) (r : Reply) (is : Option Tree) (v : Result Expanded Refusal) → m.expansion words ≡ v → Gives m was (load words) r is → undisturbed r ≡ true → is ≡ was
   undisturbed_keeps was words r is (Ok e) v given calm =
-      let held = ap undisturbed (load-held m was words r is given e v).0 in apart (cc)
+      let held = ap undisturbed (load_held m was words r is given e v).0 in apart (cc)
   undisturbed_keeps was words r is (Err refusal) v given calm = (load_refused m was words r is given refusal v).1
 
   -- the plain model over two lists of images
@@ -100,10 +100,10 @@ module _ (m : Meaning) where
         (cc, (others.1.0, cc, cc))
 
     pub steps_are_plain : (start : Option Tree) (run : List Moment) → Chain m start run → StepsAreThePlainModels m run
-    steps_are_plain start run chain before since rest x u e formed unmarked is-load ok calm =
+    steps_are_plain start run chain before since rest x u e formed unmarked is_load ok calm =
         let was = held_after start before in
         let here = chain_rest m start before (x ∷ (since ++ rest)) (rw e at chain) in
-        let held = accepted-holds was (written u) x.reply x.held (m.expansion (written u)) refl (rw is-load at here.0) ok in
+        let held = accepted_holds was (written u) x.reply x.held (m.expansion (written u)) refl (rw is_load at here.0) ok in
         let t = held.0.term in
         let models = many_calls t since (laws.loads_core (written u) held.0 held.1) (rw held.2 at (chain_front m x.held since rest here.1)) calm in
         let plain = laws.plain_is_held u t formed unmarked (held.0, held.1, refl) in

@@ -36,7 +36,7 @@ module _ (m : Meaning) (start : Option Tree) (calls left : List Call) (answers :
         let x : Moment = record { request = request_of call; reply = reply_of answer; held = is } in
         let asked = map_push (λ y. y.request) done x in
         let grouped = append_assoc (requests done) (request_of call ∷ []) (map request_of rest) in
-        let were-left = ap (map request_of) next in
+        let were_left = ap (map request_of) next in
         let replied = map_push (λ y. y.reply) done x in
         let answered = map_push reply_of answers answer in
         (done ++ (x ∷ []), cc, cc, held_more start done x, chain_more m start done x going.4 (rw (stays, ← going.3) at gives))

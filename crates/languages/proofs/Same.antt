@@ -7,7 +7,7 @@ use Rattle.languages.specs.Meaning.{Expanded, Move, moved, ended, stuck, Meaning
 use Rattle.languages.specs.Calls.{Steps, StepGives, ShowGives, HeldShowGives, BufferShowGives}
 use Rattle.languages.specs.Laws.{Laws}
 use Rattle.languages.specs.Promise.{Request, load, step, show, Reply, Moment, requests, replies, Gives}
-use Rattle.languages.proofs.Asked.{apart, by_step, by_show, load-held, load_refused}
+use Rattle.languages.proofs.Asked.{apart, by_step, by_show, load_held, load_refused}
 use Rattle.languages.proofs.Chained.{Chain}
 
 -- the same answer, and the same held, or in the buffer, from then on
@@ -17,7 +17,7 @@ Both r s is so = (r ≡ s) × (is ≡ so)
 -- two loads of the same words
 loads_same : (m : Meaning) (was : Option Tree) (words : List ℕ) (r s : Reply) (is so : Option Tree) (v : Result Expanded Refusal) → m.expansion words ≡ v → Gives m was (load words) r is → Gives m was (load words) s so → Both r s is so
 loads_same m was words r s is so (Ok e) v p q =
-    let a = load-held m was words r is p e v in let b = load-held m was words s so q e v in (cc, cc)
+    let a = load_held m was words r is p e v in let b = load_held m was words s so q e v in (cc, cc)
 loads_same m was words r s is so (Err refusal) v p q =
     let a = load_refused m was words r is p refusal v in let b = load_refused m was words s so q refusal v in (cc, cc)
 
@@ -40,17 +40,17 @@ step_same m image (Some t) (Err r) s is so p q = absurd p
 
 module _ (m : Meaning) (laws : Laws m) where
   -- two shows into the same buffer, by the law that no two terms have the same expansion
-  show-same : (t : Tree) (buffer : List ℕ) (r s : Option ℕ) (after later : List ℕ) → ShowGives m t buffer r after → ShowGives m t buffer s later → Both r s after later
-  show-same t buffer (Some n) (Some k) after later p q =
+  show_same : (t : Tree) (buffer : List ℕ) (r s : Option ℕ) (after later : List ℕ) → ShowGives m t buffer r after → ShowGives m t buffer s later → Both r s after later
+  show_same t buffer (Some n) (Some k) after later p q =
       let same = laws.one_term t p.0 q.0 p.1.0 q.1.0 p.1.2 q.1.2 in (cc, cc)
-  show-same t buffer (Some n) None after later p q = absurd (q.0 p.0 p.1)
-  show-same t buffer None (Some k) after later p q = absurd (p.0 q.0 q.1)
-  show-same t buffer None None after later p q = (refl, cc)
+  show_same t buffer (Some n) None after later p q = absurd (q.0 p.0 p.1)
+  show_same t buffer None (Some k) after later p q = absurd (p.0 q.0 q.1)
+  show_same t buffer None None after later p q = (refl, cc)
 
   held_show_same : (was : Option Tree) (buffer : List ℕ) (r s : Result (Option ℕ) Refusal) (after later : List ℕ) → HeldShowGives m was buffer r after → HeldShowGives m was buffer s later → Both r s after later
   held_show_same None buffer r s after later p q = (cc, cc)
   held_show_same (Some t) buffer (Ok r) (Ok s) after later p q =
-      let same = show-same t buffer r s after later p q in (cc, same.1)
+      let same = show_same t buffer r s after later p q in (cc, same.1)
   held_show_same (Some t) buffer (Ok r) (Err s) after later p q = absurd q
   held_show_same (Some t) buffer (Err r) s after later p q = absurd p
 

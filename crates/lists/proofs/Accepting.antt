@@ -12,7 +12,7 @@ use Rattle.texts.specs.Texts.{Reading, readings}
 use Rattle.lists.specs.Lines.{Sides, Declared, sides_of, judge_header, judge_table}
 use Rattle.lists.specs.Sound.{rising}
 use Rattle.lists.specs.Acceptance.{short_enough, accepted, with_header, with_table, unless_fault, fault_in}
-use Rattle.lists.proofs.Keeping.{header_read, table_read, lines-read}
+use Rattle.lists.proofs.Keeping.{header_read, table_read, lines_read}
 use Rattle.lists.proofs.Patterns.{head_says}
 use Rattle.lists.proofs.Rising.{forms_rise}
 
@@ -29,8 +29,8 @@ module _ (header table : List ℕ) where
   by_table d rules e head lines = by_header e ∙ ap (with_header table) head ∙ ap (with_table d) lines
 
 -- the fault of a list that was looked at as slices
-pub same-fault : (k : ℕ) (forms fs : List Form) (rules rs : List Rule) (o : Option Refusal) → fs ≡ forms → rs ≡ rules → o ≡ fault_in (record { layer = k; forms = fs; rules = map sides_of rs }) → fault_in (record { layer = k; forms = forms; rules = map sides_of rules }) ≡ o
-same-fault k forms fs rules rs o f r e = sym (e ∙ (λ i. fault_in (record { layer = k; forms = f i; rules = map sides_of (r i) })))
+pub same_fault : (k : ℕ) (forms fs : List Form) (rules rs : List Rule) (o : Option Refusal) → fs ≡ forms → rs ≡ rules → o ≡ fault_in (record { layer = k; forms = fs; rules = map sides_of rs }) → fault_in (record { layer = k; forms = forms; rules = map sides_of rules }) ≡ o
+same_fault k forms fs rules rs o f r e = sym (e ∙ (λ i. fault_in (record { layer = k; forms = f i; rules = map sides_of (r i) })))
 
 -- what a header in order keeps
 pub record HeaderKeeps (d : Declared) : Type 0 where
@@ -48,7 +48,7 @@ pub header_keeps : (rs : List Reading) (d : Declared) → judge_header rs ≡ Ok
 header_keeps rs d e =
     let read = header_read rs d e in
     let head = head_says read.first d.head read.head in
-    let lines = lines-read _ _ [] d.head.forms read.rest d.forms read.forms in
+    let lines = lines_read _ _ [] d.head.forms read.rest d.forms read.forms in
     let rise = forms_rise d.head.layer [] lines.0 read.rest lines.3 in
     record {
       layer = head.1.0;
@@ -62,7 +62,7 @@ header_keeps rs d e =
 pub table_count : (h : Head) (rs : List Reading) (rules : List Sides) → judge_table h rs ≡ Ok rules → length rules ≡ h.rules
 table_count h rs rules e =
     let read = table_read h rs rules e in
-    let lines = lines-read _ _ [] h.rules read.rest rules read.rules_are in
+    let lines = lines_read _ _ [] h.rules read.rest rules read.rules_are in
     ap length lines.1 ∙ lines.2
 
 -- the numbers within which the faults of a list are looked for
@@ -70,6 +70,6 @@ pub few_parts : (hs ts : List Reading) (d : Declared) (rules rs : List Rule) (fs
 few_parts hs ts d rules rs fs head lines forms same =
     let keeps = header_keeps hs d head in
     let count = sym (length-map rules sides_of) ∙ table_count d.head ts (map sides_of rules) lines in
-    let fs-long = ap length forms ∙ keeps.few_forms in
-    let rs-long = ap length same ∙ count in
-    (keeps.layer_most, (omega (arith, keeps.forms_most, fs-long), omega (arith, keeps.rules_most, rs-long)))
+    let fs_long = ap length forms ∙ keeps.few_forms in
+    let rs_long = ap length same ∙ count in
+    (keeps.layer_most, (omega (arith, keeps.forms_most, fs_long), omega (arith, keeps.rules_most, rs_long)))

@@ -65,8 +65,8 @@ module _ (rules : List Sides) (forms : List Form) (n : ℕ) (d : Form) (lt : n <
   pub no_rule : any (is_for (get_or forms n d)) rules ≡ false → form_fault rules i (drop n forms) ≡ Some (NoRule i)
   no_rule e = form_at_lem ∙ ap (λ t. cond t (form_fault rules (suc i) (drop (n + 1) forms)) (Some (NoRule i))) e
 
-  pub some-rule : any (is_for (get_or forms n d)) rules ≡ true → form_fault rules (i + 1) (drop (n + 1) forms) ≡ form_fault rules i (drop n forms)
-  some-rule e = ap (λ m. form_fault rules m (drop (n + 1) forms)) (add-one i) ∙ sym (form_at_lem ∙ ap (λ t. cond t (form_fault rules (suc i) (drop (n + 1) forms)) (Some (NoRule i))) e)
+  pub some_rule : any (is_for (get_or forms n d)) rules ≡ true → form_fault rules (i + 1) (drop (n + 1) forms) ≡ form_fault rules i (drop n forms)
+  some_rule e = ap (λ m. form_fault rules m (drop (n + 1) forms)) (add-one i) ∙ sym (form_at_lem ∙ ap (λ t. cond t (form_fault rules (suc i) (drop (n + 1) forms)) (Some (NoRule i))) e)
 
 pub forms_end : (rules : List Sides) (forms : List Form) (n i : ℕ) → length forms ≤ n → form_fault rules i (drop n forms) ≡ None
 unfolding form_fault

@@ -19,12 +19,12 @@ module _ {X : Type 0} (at : ℕ → Place) (reads : List X → Reading → Optio
   ReadAs read (x ∷ xs) [] = ⊥
   ReadAs read (x ∷ xs) (r ∷ rs) = (reads read r ≡ Some x) × ReadAs (read ++ x ∷ []) xs rs
 
-  pub lines-read : (read : List X) (n : ℕ) (rs : List Reading) (all : List X) → judge_lines at reads read n rs ≡ Ok all → (xs : List X) × (all ≡ read ++ xs) × (length xs ≡ n) × ReadAs read xs rs
+  pub lines_read : (read : List X) (n : ℕ) (rs : List Reading) (all : List X) → judge_lines at reads read n rs ≡ Ok all → (xs : List X) × (all ≡ read ++ xs) × (length xs ≡ n) × ReadAs read xs rs
   unfolding judge_lines
-  lines-read read zero [] all e = ([], sym (same_ok e) ∙ sym (append-nil read), refl, tt)
-  lines-read read zero (r ∷ rs) all e = absurd (err_not_ok e)
-  lines-read read (suc n) [] all e = absurd (err_not_ok e)
-  lines-read read (suc n) (r ∷ rs) all e = by (λ x. lines-read (read ++ x ∷ []) n rs all) (reads read r) refl e
+  lines_read read zero [] all e = ([], sym (same_ok e) ∙ sym (append-nil read), refl, tt)
+  lines_read read zero (r ∷ rs) all e = absurd (err_not_ok e)
+  lines_read read (suc n) [] all e = absurd (err_not_ok e)
+  lines_read read (suc n) (r ∷ rs) all e = by (λ x. lines_read (read ++ x ∷ []) n rs all) (reads read r) refl e
     where
       by :
           ((x : X) → judge_lines at reads (read ++ x ∷ []) n rs ≡ Ok all → (xs : List X) × (all ≡ (read ++ x ∷ []) ++ xs) × (length xs ≡ n) × ReadAs (read ++ x ∷ []) xs rs)
@@ -34,15 +34,15 @@ module _ {X : Type 0} (at : ℕ → Place) (reads : List X → Reading → Optio
       by go None has e = absurd (err_not_ok e)
       by go (Some x) has e = let rest = go x e in (x ∷ rest.0, rest.1 ∙ append_assoc read (x ∷ []) rest.0, ap suc rest.2, (has, rest.3))
 
-  pub lines-judged : (read xs : List X) (rs : List Reading) (n : ℕ) → length xs ≡ n → ReadAs read xs rs → judge_lines at reads read n rs ≡ Ok (read ++ xs)
+  pub lines_judged : (read xs : List X) (rs : List Reading) (n : ℕ) → length xs ≡ n → ReadAs read xs rs → judge_lines at reads read n rs ≡ Ok (read ++ xs)
   unfolding judge_lines
-  lines-judged read [] [] zero l p = ap (λ (ys : List X). Ok ys) (sym (append-nil read))
-  lines-judged read [] [] (suc n) l p = absurd (omega arith)
-  lines-judged read [] (r ∷ rs) n l p = absurd p
-  lines-judged read (x ∷ xs) [] n l p = absurd p
-  lines-judged read (x ∷ xs) (r ∷ rs) zero l p = absurd (omega arith)
-  lines-judged read (x ∷ xs) (r ∷ rs) (suc n) l p =
-      rw (p.0, judge_lines) (lines-judged (read ++ x ∷ []) xs rs n (omega arith) p.1 ∙ ap (λ (ys : List X). Ok ys) (append_assoc read (x ∷ []) xs))
+  lines_judged read [] [] zero l p = ap (λ (ys : List X). Ok ys) (sym (append-nil read))
+  lines_judged read [] [] (suc n) l p = absurd (omega arith)
+  lines_judged read [] (r ∷ rs) n l p = absurd p
+  lines_judged read (x ∷ xs) [] n l p = absurd p
+  lines_judged read (x ∷ xs) (r ∷ rs) zero l p = absurd (omega arith)
+  lines_judged read (x ∷ xs) (r ∷ rs) (suc n) l p =
+      rw (p.0, judge_lines) (lines_judged (read ++ x ∷ []) xs rs n (omega arith) p.1 ∙ ap (λ (ys : List X). Ok ys) (append_assoc read (x ∷ []) xs))
 
 -- a header whose lines are in order
 pub record HeaderRead (rs : List Reading) (d : Declared) : Type 0 where

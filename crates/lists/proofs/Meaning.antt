@@ -19,14 +19,14 @@ use Rattle.lists.specs.Spelling.{header_says, table_says, form_says, rules_say}
 use Rattle.lists.specs.Laws.{Proper, LeftSide, RightSide, OncePlaced, FromLeft, AcceptedAreProper, ProperAreAccepted, Means}
 use Rattle.texts.proofs.Answering.{err_not_ok, same_ok}
 use Rattle.lists.proofs.Judging.{header_is, table_is}
-use Rattle.lists.proofs.Keeping.{header_read, table_read, lines-read, lines-judged}
-use Rattle.lists.proofs.Patterns.{head_says, head-fits, table_says_lem, table_fits}
-use Rattle.lists.proofs.Rising.{forms_rise, rising-read, rise, risen, form_words}
-use Rattle.lists.proofs.Ruled.{Sized, InWords, rules-said, said-rules}
+use Rattle.lists.proofs.Keeping.{header_read, table_read, lines_read, lines_judged}
+use Rattle.lists.proofs.Patterns.{head_says, head_fits, table_says_lem, table_fits}
+use Rattle.lists.proofs.Rising.{forms_rise, rising_read, rise, risen, form_words}
+use Rattle.lists.proofs.Ruled.{Sized, InWords, rules_said, said_rules}
 use Rattle.lists.proofs.Faultless.{Faultless, no_fault, faultless}
 use Rattle.lists.proofs.Accepting.{by_table}
 use Rattle.lists.proofs.Quantified.{all_if_every, every_if_all, all_by, all_by₂, all_by₃}
-use Rattle.lists.proofs.Shaped.{left_side, left-shaped, right_side, right-shaped, arguments-small, rights-small}
+use Rattle.lists.proofs.Shaped.{left_side, left_shaped_lem, right_side, right_shaped_lem, arguments_small, rights_small}
 use Rattle.lists.proofs.Placed.{placed_once, once_placed, bound_from_left, from_left_bound}
 use Rattle.lists.proofs.Apart.{apart_if_none, none_if_apart, ruled_if, if_ruled}
 
@@ -80,7 +80,7 @@ header_said : (header : List ℕ) (l : Listed) (h : Head) → judge_header (read
 header_said header l h e layer rules =
     let read = header_read (readings header) (record { head = h; forms = l.forms }) e in
     let head = head_says read.first h read.head in
-    let lines = lines-read _ _ [] h.forms read.rest l.forms read.forms in
+    let lines = lines_read _ _ [] h.forms read.rest l.forms read.forms in
     let count = ap length lines.1 ∙ lines.2 in
     let are = forms_rise h.layer [] lines.0 read.rest lines.3 in
     record {
@@ -96,9 +96,9 @@ table_said_lem : (table : List ℕ) (l : Listed) (h : Head) → judge_table h (r
 table_said_lem table l h e layer =
     let read = table_read h (readings table) l.rules e in
     let first = table_says_lem read.first h.layer h.rules read.head in
-    let lines = lines-read _ _ [] h.rules read.rest l.rules read.rules_are in
+    let lines = lines_read _ _ [] h.rules read.rest l.rules read.rules_are in
     let count = sym (ap length lines.1 ∙ lines.2) in
-    let are = rules-said [] lines.0 read.rest lines.3 in (
+    let are = rules_said [] lines.0 read.rest lines.3 in (
       read.lines ∙ (λ i. first i ∷ (are.0 ∙ ap (rules_say 0) (sym lines.1)) i) ∙ (λ i. table_line (layer i ∷ count i ∷ []) ∷ rules_say 0 l.rules),
       subst (AllByRecursion Sized) (sym lines.1) are.1,
       count,
@@ -150,39 +150,39 @@ said_if_accepted header table l e =
     record { short = s.short; header_says_lem = h.says; table_says_it = t.0; is_proper = proper header l h t.1 (no_fault l s.faults) }
 
 -- a side in shape is not empty, and its words fit 32 bits
-left-some : (forms : List Form) (left : List ℕ) → left_shaped forms left ≡ true → 1 ≤ length left
-left-some forms [] e = absurd (false≢true e)
-left-some forms (w ∷ ws) e = omega arith
+left_some : (forms : List Form) (left : List ℕ) → left_shaped forms left ≡ true → 1 ≤ length left
+left_some forms [] e = absurd (false≢true e)
+left_some forms (w ∷ ws) e = omega arith
 
-right-some : (k : ℕ) (right : List ℕ) → right_shaped k right ≡ true → 1 ≤ length right
-right-some k [] e = absurd (false≢true e)
-right-some k (w ∷ ws) e = omega arith
+right_some : (k : ℕ) (right : List ℕ) → right_shaped k right ≡ true → 1 ≤ length right
+right_some k [] e = absurd (false≢true e)
+right_some k (w ∷ ws) e = omega arith
 
-left-small : (k : ℕ) (forms : List Form) (left : List ℕ) → k ≤ 6 → rising k forms ≡ true → LeftSide forms left → AllByRecursion (λ w. w < 4294967296) left
-left-small k forms left small r s =
+left_small : (k : ℕ) (forms : List Form) (left : List ℕ) → k ≤ 6 → rising k forms ≡ true → LeftSide forms left → AllByRecursion (λ w. w < 4294967296) left
+left_small k forms left small r s =
     let word = all-has (λ f. form_word f < 4294967296) forms s.0 (form_words k 0 forms small (rise k 0 forms r)) s.2 in
-    subst (AllByRecursion (λ w. w < 4294967296)) (sym s.3) (word, arguments-small s.1 s.5)
+    subst (AllByRecursion (λ w. w < 4294967296)) (sym s.3) (word, arguments_small s.1 s.5)
 
 -- the tests that a proper list passes
 module _ (l : Listed) (p : Proper l) where
   rises : rising l.layer l.forms ≡ true
   rises = risen l.layer 0 l.forms p.forms
 
-  lefts-shaped : AllByRecursion (λ s. left_shaped l.forms s.left ≡ true) l.rules
-  lefts-shaped = all_by (λ s h. left-shaped l.forms s.left h) l.rules p.lefts
+  lefts_shaped : AllByRecursion (λ s. left_shaped l.forms s.left ≡ true) l.rules
+  lefts_shaped = all_by (λ s h. left_shaped_lem l.forms s.left h) l.rules p.lefts
 
-  rights-shaped : AllByRecursion (λ s. right_shaped l.layer s.right ≡ true) l.rules
-  rights-shaped = all_by (λ s h. right-shaped l.layer s.right h) l.rules p.rights
+  rights_shaped : AllByRecursion (λ s. right_shaped l.layer s.right ≡ true) l.rules
+  rights_shaped = all_by (λ s h. right_shaped_lem l.layer s.right h) l.rules p.rights
 
   sized : AllByRecursion Sized l.rules
-  sized = all_by₃ (λ s a b c. (left-some l.forms s.left a, c.0, right-some l.layer s.right b, c.1)) l.rules lefts-shaped rights-shaped p.sizes
+  sized = all_by₃ (λ s a b c. (left_some l.forms s.left a, c.0, right_some l.layer s.right b, c.1)) l.rules lefts_shaped rights_shaped p.sizes
 
   in_words : AllByRecursion InWords l.rules
-  in_words = all_by₂ (λ s a b. (left-small l.layer l.forms s.left p.layer.1 rises a, rights-small l.layer s.right b.4)) l.rules p.lefts p.rights
+  in_words = all_by₂ (λ s a b. (left_small l.layer l.forms s.left p.layer.1 rises a, rights_small l.layer s.right b.4)) l.rules p.lefts p.rights
 
   tests : Faultless l
   tests = record {
-    shaped = every_if_all (shaped l.layer l.forms) l.rules (all_by₂ (λ s a b. and_from _ _ a b) l.rules lefts-shaped rights-shaped);
+    shaped = every_if_all (shaped l.layer l.forms) l.rules (all_by₂ (λ s a b. and_from _ _ a b) l.rules lefts_shaped rights_shaped);
     linear = every_if_all linear l.rules (all_by₂ (λ s a b. and_from _ _ (and_from _ _ (once_placed s.left a.0) (once_placed s.right a.1)) (from_left_bound s.left s.right b)) l.rules p.once p.from_left);
     apart = none_if_apart l.rules p.apart;
     ruled = if_ruled l.forms l.rules p.ruled;
@@ -194,14 +194,14 @@ module _ (l : Listed) (p : Proper l) where
   header_judged : (header : List ℕ) → readings header ≡ header_says l → judge_header (readings header) ≡ Ok (record { head = first; forms = l.forms })
   unfolding first
   header_judged header says =
-      header_is (readings header) _ _ says first (head-fits first (range l.layer 1 6 p.layer.0 p.layer.1, range (length l.forms) 1 32 p.form_count.0 p.form_count.1, range (length l.rules) 1 32 p.rule_count.0 p.rule_count.1))
-      ∙ ap (with_forms first) (lines-judged _ _ [] l.forms (map form_says l.forms) (length l.forms) refl (rising-read l.layer [] l.forms rises))
+      header_is (readings header) _ _ says first (head_fits first (range l.layer 1 6 p.layer.0 p.layer.1, range (length l.forms) 1 32 p.form_count.0 p.form_count.1, range (length l.rules) 1 32 p.rule_count.0 p.rule_count.1))
+      ∙ ap (with_forms first) (lines_judged _ _ [] l.forms (map form_says l.forms) (length l.forms) refl (rising_read l.layer [] l.forms rises))
 
   table_judged : (table : List ℕ) → readings table ≡ table_says l → judge_table first (readings table) ≡ Ok l.rules
   unfolding first
   table_judged table says =
       table_is first (readings table) _ _ says l.layer (length l.rules) (table_fits l.layer (length l.rules) (range l.layer 1 6 p.layer.0 p.layer.1) (range (length l.rules) 1 32 p.rule_count.0 p.rule_count.1)) refl refl
-      ∙ lines-judged _ _ [] l.rules (rules_say 0 l.rules) (length l.rules) refl (said-rules [] l.rules sized in_words)
+      ∙ lines_judged _ _ [] l.rules (rules_say 0 l.rules) (length l.rules) refl (said_rules [] l.rules sized in_words)
 
 pub accepted_if_said : (header table : List ℕ) (l : Listed) → Said header table l → accepted header table ≡ Ok l
 unfolding first

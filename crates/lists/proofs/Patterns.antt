@@ -28,8 +28,8 @@ head_says (table_line ns) h e = absurd (none_not_some e)
 head_says (rule_line ns) h e = absurd (none_not_some e)
 head_says broken_line h e = absurd (none_not_some e)
 
-pub head-fits : (h : Head) → HeadFits h → head_of_line (head_line (h.layer ∷ h.forms ∷ h.rules ∷ [])) ≡ Some h
-head-fits h fits = rw (and_from _ _ (and_from _ _ fits.0 fits.1) fits.2)
+pub head_fits : (h : Head) → HeadFits h → head_of_line (head_line (h.layer ∷ h.forms ∷ h.rules ∷ [])) ≡ Some h
+head_fits h fits = rw (and_from _ _ (and_from _ _ fits.0 fits.1) fits.2)
 
 -- the line of a form
 abbrev pub FormFits : ℕ → ℕ → Form → Type 0
@@ -47,8 +47,8 @@ form_says_lem k before (table_line ns) f e = absurd (none_not_some e)
 form_says_lem k before (rule_line ns) f e = absurd (none_not_some e)
 form_says_lem k before broken_line f e = absurd (none_not_some e)
 
-pub form-fits : (k before : ℕ) (f : Form) → FormFits k before f → form_of_line k before (form_line (f.label ∷ f.count ∷ [])) ≡ Some f
-form-fits k before f fits = rw fits
+pub form_fits : (k before : ℕ) (f : Form) → FormFits k before f → form_of_line k before (form_line (f.label ∷ f.count ∷ [])) ≡ Some f
+form_fits k before f fits = rw fits
 
 -- the table's first line
 pub table_says_lem : (r : Reading) (k n : ℕ) → table_of_line r ≡ Some (k, n) → r ≡ table_line (k ∷ n ∷ [])

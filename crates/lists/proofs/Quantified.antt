@@ -30,8 +30,8 @@ all_by₃ f (x ∷ xs) p q r = (f x p.0 q.0 r.0, all_by₃ f xs p.1 q.1 r.1)
 pub has_first : {X : Type 0} (x : X) (xs : List X) → ContainsAt (x ∷ xs) x
 has_first x xs = (0, omega arith, λ d. refl)
 
-pub has-later : {X : Type 0} (y : X) (xs : List X) (x : X) → ContainsAt xs x → ContainsAt (y ∷ xs) x
-has-later y xs x h = (suc h.0, (let l = h.1 in omega arith), h.2)
+pub has_later : {X : Type 0} (y : X) (xs : List X) (x : X) → ContainsAt xs x → ContainsAt (y ∷ xs) x
+has_later y xs x h = (suc h.0, (let l = h.1 in omega arith), h.2)
 
 pub has_if_any : {X : Type 0} (test : X → Bool) (xs : List X) → any test xs ≡ true → (x : X) × ContainsAt xs x × (test x ≡ true)
 unfolding any
@@ -40,7 +40,7 @@ has_if_any test (y ∷ ys) e = by (has_if_any test ys) (test y) refl e
   where
     by : (any test ys ≡ true → (x : _) × ContainsAt ys x × (test x ≡ true)) → (t : Bool) → test y ≡ t → (t || any test ys) ≡ true → (x : _) × ContainsAt (y ∷ ys) x × (test x ≡ true)
     by rest true t e = (y, has_first y ys, t)
-    by rest false t e = let r = rest e in (r.0, has-later y ys r.0 r.1, r.2)
+    by rest false t e = let r = rest e in (r.0, has_later y ys r.0 r.1, r.2)
 
 any_at : {X : Type 0} (test : X → Bool) (xs : List X) (x : X) (k : ℕ) → k < length xs → get_or xs k x ≡ x → test x ≡ true → any test xs ≡ true
 unfolding any

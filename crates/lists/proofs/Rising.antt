@@ -12,7 +12,7 @@ use Rattle.lists.specs.Sound.{rising_from}
 use Rattle.lists.specs.Spelling.{form_says}
 use Rattle.lists.proofs.Judging.{last_label_lem}
 use Rattle.lists.proofs.Keeping.{ReadAs}
-use Rattle.lists.proofs.Patterns.{form_says_lem, form-fits}
+use Rattle.lists.proofs.Patterns.{form_says_lem, form_fits}
 
 abbrev pub FormsRead : ℕ → List Form → List Form → List Reading → Type 0
 FormsRead k = ReadAs (λ i. place.Form i) (λ read. form_of_line k (last_label read))
@@ -27,12 +27,12 @@ forms_rise k read (x ∷ xs) (r ∷ rs) p =
     let rest = forms_rise k (read ++ x ∷ []) xs rs p.1 in
     ((λ i. here.0 i ∷ rest.0 i), and_from _ _ here.1 (ap (λ b. rising_from k b xs) (sym (last_label_lem read x)) ∙ rest.1))
 
-pub rising-read : (k : ℕ) (read xs : List Form) → rising_from k (last_label read) xs ≡ true → FormsRead k read xs (map form_says xs)
+pub rising_read : (k : ℕ) (read xs : List Form) → rising_from k (last_label read) xs ≡ true → FormsRead k read xs (map form_says xs)
 unfolding rising_from
-rising-read k read [] p = tt
-rising-read k read (x ∷ xs) p =
+rising_read k read [] p = tt
+rising_read k read (x ∷ xs) p =
     let both = and_parts _ (rising_from k x.label xs) p in
-    (form-fits k (last_label read) x both.0, rising-read k (read ++ x ∷ []) xs (ap (λ b. rising_from k b xs) (last_label_lem read x) ∙ both.1))
+    (form_fits k (last_label read) x both.0, rising_read k (read ++ x ∷ []) xs (ap (λ b. rising_from k b xs) (last_label_lem read x) ∙ both.1))
 
 -- the test of rising forms as a statement, both ways
 pub rise : (k before : ℕ) (forms : List Form) → rising_from k before forms ≡ true → Rising k before forms

@@ -35,10 +35,10 @@ rule_of_says k n a b ns s e =
     let long = eqb-true (length ns) (2 * (a + b)) tests.1 in
     let left = fields_of_words (take (2 * a) ns) s.left t.1 in
     let right = fields_of_words (drop (2 * a) ns) s.right t.2 in
-    let left-long : length s.left ≡ a = omega (arith, left.1, length-take-le (2 * a) ns (omega arith)) in
-    let right-long : length s.right ≡ b = omega (arith, right.1, length-drop (2 * a) ns) in
+    let left_long : length s.left ≡ a = omega (arith, left.1, length-take-le (2 * a) ns (omega arith)) in
+    let right_long : length s.right ≡ b = omega (arith, right.1, length-drop (2 * a) ns) in
     let fields : ns ≡ word_fields s.left ++ word_fields s.right = sym (take-append-drop (2 * a) ns) ∙ (λ i. left.0 i ++ right.0 i) in (
-      (λ i. rule_line (number i ∷ sym left-long i ∷ sym right-long i ∷ fields i)),
+      (λ i. rule_line (number i ∷ sym left_long i ∷ sym right_long i ∷ fields i)),
       (omega (arith, leb-true 1 a lefts.0), omega (arith, leb-true a 9 lefts.1), omega (arith, leb-true 1 b rights.0), omega (arith, leb-true b 64 rights.1)),
     )
 
@@ -60,28 +60,28 @@ pub rule_fits : (k : ℕ) (s : Sides) → Sized s → InWords s → rule_of_line
 rule_fits k s sized words =
     let ls = word_fields s.left in
     let rs = word_fields s.right in
-    let left-long = fields_length s.left in
-    let right-long = fields_length s.right in
+    let left_long = fields_length s.left in
+    let right_long = fields_length s.right in
     let long : length (ls ++ rs) ≡ 2 * (length s.left + length s.right) = omega (arith, length-append ls rs) in
     rule_is k (k ∷ length s.left ∷ length s.right ∷ (ls ++ rs)) (omega arith) refl sized.0 sized.1 sized.2 sized.3 long
-    ∙ (λ i. sides_from (words_of (take_at ls rs (2 * length s.left) left-long i)) (words_of (drop_at ls rs (2 * length s.left) left-long i)))
+    ∙ (λ i. sides_from (words_of (take_at ls rs (2 * length s.left) left_long i)) (words_of (drop_at ls rs (2 * length s.left) left_long i)))
     ∙ (λ i. sides_from (words_of_fields s.left words.0 i) (words_of_fields s.right words.1 i))
 
 abbrev pub RulesRead : List Sides → List Sides → List Reading → Type 0
 RulesRead = ReadAs (λ i. place.Rule i) (λ read. rule_of_line (length read))
 
-pub rules-said : (read xs : List Sides) (rs : List Reading) → RulesRead read xs rs → (rs ≡ rules_say (length read) xs) × AllByRecursion Sized xs
-rules-said read [] [] p = (refl, tt)
-rules-said read [] (r ∷ rs) p = absurd p
-rules-said read (x ∷ xs) [] p = absurd p
-rules-said read (x ∷ xs) (r ∷ rs) p =
+pub rules_said : (read xs : List Sides) (rs : List Reading) → RulesRead read xs rs → (rs ≡ rules_say (length read) xs) × AllByRecursion Sized xs
+rules_said read [] [] p = (refl, tt)
+rules_said read [] (r ∷ rs) p = absurd p
+rules_said read (x ∷ xs) [] p = absurd p
+rules_said read (x ∷ xs) (r ∷ rs) p =
     let here = rule_says_lem (length read) r x p.0 in
-    let rest = rules-said (read ++ x ∷ []) xs rs p.1 in
+    let rest = rules_said (read ++ x ∷ []) xs rs p.1 in
     let next = length_push read x ∙ add-one (length read) in
     ((λ i. here.0 i ∷ (rest.0 ∙ ap (λ n. rules_say n xs) next) i), (here.1, rest.1))
 
-pub said-rules : (read xs : List Sides) → AllByRecursion Sized xs → AllByRecursion InWords xs → RulesRead read xs (rules_say (length read) xs)
-said-rules read [] p q = tt
-said-rules read (x ∷ xs) p q =
+pub said_rules : (read xs : List Sides) → AllByRecursion Sized xs → AllByRecursion InWords xs → RulesRead read xs (rules_say (length read) xs)
+said_rules read [] p q = tt
+said_rules read (x ∷ xs) p q =
     let next = length_push read x ∙ add-one (length read) in
-    (rule_fits (length read) x p.0 q.0, subst (λ n. RulesRead (read ++ x ∷ []) xs (rules_say n xs)) next (said-rules (read ++ x ∷ []) xs p.1 q.1))
+    (rule_fits (length read) x p.0 q.0, subst (λ n. RulesRead (read ++ x ∷ []) xs (rules_say n xs)) next (said_rules (read ++ x ∷ []) xs p.1 q.1))

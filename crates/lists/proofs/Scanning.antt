@@ -42,10 +42,10 @@ pub once_end : (ws : List ℕ) (i : ℕ) → length ws ≤ i → once_each (drop
 unfolding once_each
 once_end ws i all = ap once_each (drop_all i ws all)
 
-agree-none : (vs : List ℕ) → agree vs [] ≡ true
+agree_none : (vs : List ℕ) → agree vs [] ≡ true
 unfolding agree
-agree-none [] = refl
-agree-none (v ∷ vs) = refl
+agree_none [] = refl
+agree_none (v ∷ vs) = refl
 
 module _ (vs ws : List ℕ) (i : ℕ) where
   agree_at : i < length vs → i < length ws → agree (drop i vs) (drop i ws) ≡ (not (clash (get_or vs i 0) (get_or ws i 0)) && agree (drop (i + 1) vs) (drop (i + 1) ws))
@@ -63,4 +63,4 @@ module _ (vs ws : List ℕ) (i : ℕ) where
   agree_first_end l = ap (λ us. agree us (drop i ws)) (drop_all i vs l)
 
   pub agree_second_end : length ws ≤ i → agree (drop i vs) (drop i ws) ≡ true
-  agree_second_end l = ap (agree (drop i vs)) (drop_all i ws l) ∙ agree-none (drop i vs)
+  agree_second_end l = ap (agree (drop i vs)) (drop_all i ws l) ∙ agree_none (drop i vs)

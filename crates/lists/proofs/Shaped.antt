@@ -24,8 +24,8 @@ left_side forms (w ∷ args) e =
     let fits = and_parts (eqb (form_word f.0) w) (eqb (length args) f.0.count) f.2 in
     (f.0, args, f.1, ap (λ v. v ∷ args) (sym (eqb-true (form_word f.0) w fits.0)), eqb-true (length args) f.0.count fits.1, all_if_every is_argument args p.1)
 
-pub left-shaped : (forms : List declared.Form) (left : List ℕ) → LeftSide forms left → left_shaped forms left ≡ true
-left-shaped forms left s =
+pub left_shaped_lem : (forms : List declared.Form) (left : List ℕ) → LeftSide forms left → left_shaped forms left ≡ true
+left_shaped_lem forms left s =
     let f = s.0 in
     let args = s.1 in
     let here = any_if_has (λ f. eqb (form_word f) (form_word s.0) && eqb (length s.1) f.count) forms s.0 s.2 (and_from _ _ (eq-eqb (form_word s.0) (form_word s.0) refl) (eq-eqb (length s.1) s.0.count s.4)) in
@@ -78,13 +78,13 @@ lower_if k l n w is e =
     let none : (is_argument w) ≡ false = ap (λ (o : Option Node). is_variable o || is_atom o) is in
     ap (λ t. t || is_lower_form k (node_of w)) (sym none) ∙ e
 
-form-first : (l : ℕ) (ts : Trees) → WellMade (form l ts) true → (ws : List ℕ) × (written (form l ts) ≡ word l (count ts) ∷ ws) × (node_of (word l (count ts)) ≡ Some (Form l (count ts)))
+form_first : (l : ℕ) (ts : Trees) → WellMade (form l ts) true → (ws : List ℕ) × (written (form l ts) ≡ word l (count ts) ∷ ws) × (node_of (word l (count ts)) ≡ Some (Form l (count ts)))
 unfolding written WellMade
-form-first l ts made = (_, refl, node_form l (count ts) made.0 made.1)
+form_first l ts made = (_, refl, node_form l (count ts) made.0 made.1)
 
-pub right-shaped : (k : ℕ) (right : List ℕ) → RightSide k right → right_shaped k right ≡ true
-right-shaped k right s =
-    let first = form-first s.0 s.1 s.2 in
+pub right_shaped_lem : (k : ℕ) (right : List ℕ) → RightSide k right → right_shaped k right ≡ true
+right_shaped_lem k right s =
+    let first = form_first s.0 s.1 s.2 in
     let is = sym s.3 ∙ first.1 in
     let all = subst (AllByRecursion (λ w. on_right k w ≡ true)) is s.4 in
     let tree = if_tree (word s.0 (count s.1) ∷ first.0) (form s.0 s.1) s.2 first.1 in
@@ -100,16 +100,16 @@ node_small w (Some (Body k)) s e = absurd (false≢true e)
 node_small w (Some (Head k r d)) s e = absurd (false≢true e)
 node_small w (Some (Form l n)) s e = absurd (false≢true e)
 
-right-small : (k w : ℕ) (o : Option Node) → Stands w o → ((is_variable o || is_atom o) || is_lower_form k o) ≡ true → w < 4294967296
-right-small k w None s e = absurd (false≢true e)
-right-small k w (Some (Atom v)) s e = omega (arith, s.0, s.1)
-right-small k w (Some (Variable n)) s e = omega (arith, s.0, s.1)
-right-small k w (Some (Body j)) s e = absurd (false≢true e)
-right-small k w (Some (Head j r d)) s e = absurd (false≢true e)
-right-small k w (Some (Form l n)) s e = omega (arith, s.0, leb-true l 255 (and_parts (leb 16 l) (leb l 255) s.1).1, s.2)
+right_small : (k w : ℕ) (o : Option Node) → Stands w o → ((is_variable o || is_atom o) || is_lower_form k o) ≡ true → w < 4294967296
+right_small k w None s e = absurd (false≢true e)
+right_small k w (Some (Atom v)) s e = omega (arith, s.0, s.1)
+right_small k w (Some (Variable n)) s e = omega (arith, s.0, s.1)
+right_small k w (Some (Body j)) s e = absurd (false≢true e)
+right_small k w (Some (Head j r d)) s e = absurd (false≢true e)
+right_small k w (Some (Form l n)) s e = omega (arith, s.0, leb-true l 255 (and_parts (leb 16 l) (leb l 255) s.1).1, s.2)
 
-pub arguments-small : (args : List ℕ) → AllByRecursion (λ w. is_argument w ≡ true) args → AllByRecursion (λ w. w < 4294967296) args
-arguments-small args a = all_by (λ w e. node_small w (node_of w) (stands w) e) args a
+pub arguments_small : (args : List ℕ) → AllByRecursion (λ w. is_argument w ≡ true) args → AllByRecursion (λ w. w < 4294967296) args
+arguments_small args a = all_by (λ w e. node_small w (node_of w) (stands w) e) args a
 
-pub rights-small : (k : ℕ) (right : List ℕ) → AllByRecursion (λ w. on_right k w ≡ true) right → AllByRecursion (λ w. w < 4294967296) right
-rights-small k right a = all_by (λ w e. right-small k w (node_of w) (stands w) e) right a
+pub rights_small : (k : ℕ) (right : List ℕ) → AllByRecursion (λ w. on_right k w ≡ true) right → AllByRecursion (λ w. w < 4294967296) right
+rights_small k right a = all_by (λ w e. right_small k w (node_of w) (stands w) e) right a

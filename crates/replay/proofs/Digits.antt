@@ -24,9 +24,9 @@ module _ (most : ℕ) (text : List ℕ) (i v : ℕ) (lt : i < length text) where
   pub one_digit_at : (next : ℕ) → with_digit most v (get_or text i 0) ≡ Some next → digits_of most v (drop i text) ≡ digits_of most next (drop (i + 1) text)
   one_digit_at next e = ap (digits_of most v) (drop_more text i 0 lt) ∙ one_digit most v _ _ next e
 
-pub digits-none : (most v : ℕ) → digits_of most v [] ≡ Some v
+pub digits_none : (most v : ℕ) → digits_of most v [] ≡ Some v
 unfolding digits_of
-digits-none most v = refl
+digits_none most v = refl
 
 pub no_text : (most : ℕ) (text : List ℕ) → length text ≡ 0 → number_of most text ≡ None
 no_text most [] l = refl
@@ -43,9 +43,9 @@ with_within most v b next e =
     let fits = leb-true (v * 10 + (b - 48)) most (and_parts (leb 48 b && leb b 57) (leb (v * 10 + (b - 48)) most) t.0).1 in
     (t.1, omega (arith, t.1, fits))
 
-digits-within : (most v : ℕ) (bs : List ℕ) (n : ℕ) → v ≤ most → digits_of most v bs ≡ Some n → n ≤ most
-digits-within most v [] n l e = let same : v ≡ n = same_some (sym (digits-none most v) ∙ e) in omega arith
-digits-within most v (b ∷ bs) n l e = by (with_digit most v b) refl (digits-within most (v * 10 + (b - 48)) bs n)
+digits_within : (most v : ℕ) (bs : List ℕ) (n : ℕ) → v ≤ most → digits_of most v bs ≡ Some n → n ≤ most
+digits_within most v [] n l e = let same : v ≡ n = same_some (sym (digits_none most v) ∙ e) in omega arith
+digits_within most v (b ∷ bs) n l e = by (with_digit most v b) refl (digits_within most (v * 10 + (b - 48)) bs n)
   where
     by : (o : Option ℕ) → with_digit most v b ≡ o → (v * 10 + (b - 48) ≤ most → digits_of most (v * 10 + (b - 48)) bs ≡ Some n → n ≤ most) → n ≤ most
     by None o rest = absurd (none_not_some (sym (no_digit most v b bs o) ∙ e))
@@ -53,9 +53,9 @@ digits-within most v (b ∷ bs) n l e = by (with_digit most v b) refl (digits-wi
         let is = with_within most v b next o in
         rest (omega (arith, is.0, is.1)) (ap (λ (x : ℕ). digits_of most x bs) is.0 ∙ sym (one_digit most v b bs next o) ∙ e)
 
-pub number-within : (most : ℕ) (text : List ℕ) (n : ℕ) → number_of most text ≡ Some n → n ≤ most
-number-within most [] n e = absurd (none_not_some e)
-number-within most (b ∷ bs) n e = digits-within most 0 (b ∷ bs) n (omega arith) e
+pub number_within : (most : ℕ) (text : List ℕ) (n : ℕ) → number_of most text ≡ Some n → n ≤ most
+number_within most [] n e = absurd (none_not_some e)
+number_within most (b ∷ bs) n e = digits_within most 0 (b ∷ bs) n (omega arith) e
 
 -- no colon stands in it
 abbrev pub Uncoloned : List ℕ → Type 0
@@ -90,11 +90,11 @@ no_label l p e = ap (λ (o : Option ℕ). word_by o p) e
 pub no_payload : (v : ℕ) (l p : Option ℕ) → Some v ≡ l → None ≡ p → None ≡ word_by l p
 no_payload v l p e f = ap (word_by (Some v)) f ∙ ap (λ (o : Option ℕ). word_by o p) e
 
-pub both-numbers : (v w : ℕ) (l p : Option ℕ) → Some v ≡ l → Some w ≡ p → Some (word v w) ≡ word_by l p
-both-numbers v w l p e f = ap (word_by (Some v)) f ∙ ap (λ (o : Option ℕ). word_by o p) e
+pub both_numbers : (v w : ℕ) (l p : Option ℕ) → Some v ≡ l → Some w ≡ p → Some (word v w) ≡ word_by l p
+both_numbers v w l p e f = ap (word_by (Some v)) f ∙ ap (λ (o : Option ℕ). word_by o p) e
 
-pub label-fits : (l : ℕ) → l ≤ 255 → Fits w32 (l * 16777216)
-label-fits l h = omega arith
+pub label_fits : (l : ℕ) → l ≤ 255 → Fits w32 (l * 16777216)
+label_fits l h = omega arith
 
 pub word_fits : (l p : ℕ) → l ≤ 255 → p ≤ 16777215 → Fits w32 (l * 16777216 + p)
 word_fits l p h k = omega arith

@@ -22,9 +22,9 @@ term_is ws first behind e = sym (ap term_text e)
 
 -- nothing is written of no words
 module _ {W : Type 0} (took : W → List ℕ → W → Type 0) (f : Formatter W) (plain : IsPlainFormatter f) where
-  pub none-behind : HasWritten took f (behind_text []) f
+  pub none_behind : HasWritten took f (behind_text []) f
   unfolding behind_text
-  none-behind = record { wrote = writes_in_calls_nil took f.writer; plain = plain }
+  none_behind = record { wrote = writes_in_calls_nil took f.writer; plain = plain }
 
   pub none_at_all : (ws : List ℕ) → length ws ≡ 0 → HasWritten took f (term_text ws) f
   unfolding term_text

@@ -5,7 +5,7 @@ use Rattle.std.proofs.lemmas.Bool.{cond-true, cond-false, le-leb, lt-leb}
 use Rattle.terms.specs.declared.front.Broken.{Broken}
 use Rattle.terms.specs.Trees.{Tree, written, WellMade, term_of}
 use Rattle.terms.specs.Fronts.{wholly}
-use Rattle.terms.proofs.Readings.{term-read}
+use Rattle.terms.proofs.Readings.{term_read}
 use Rattle.languages.specs.declared.refusal.Refusal.{Refusal}
 use Rattle.languages.specs.declared.refusal.Refusal.TheVariants.{TooLong, NoTerm, NoSuchForm}
 use Rattle.languages.specs.Meaning.{Expanded}
@@ -15,7 +15,7 @@ use Rattle.steppers.specs.Written.{LacksAt, Admitted}
 
 -- the words of a term are those of that term
 pub term_of_lem : (words : List ℕ) (t : Tree) → WellMade t false → written t ≡ words → term_of words ≡ Some t
-term_of_lem words t h e = ap term_of (sym e) ∙ term-read t false h
+term_of_lem words t h e = ap term_of (sym e) ∙ term_read t false h
 
 -- the expansion, by whether the words are one term
 abbrev loaded_by : Table → List ℕ → Result (Unit {0}) Broken → Result Expanded Refusal
@@ -63,5 +63,5 @@ module _ (table : Table) (words : List ℕ) where
       lacks place l = sym (ap admits (loaded (Some place) l))
 
       -- a term without such a form is admitted
-      pub lacks-none : LacksAt table.has words None → Admitted table words (Ok tt)
-      lacks-none l = sym (ap admits (loaded None l))
+      pub lacks_none : LacksAt table.has words None → Admitted table words (Ok tt)
+      lacks_none l = sym (ap admits (loaded None l))

@@ -12,9 +12,9 @@ use Rattle.steppers.specs.Written.{passed_by}
 use Rattle.steppers.proofs.Beginnings.{front_node, no_front, all_end}
 
 -- no words in front change no place
-behind-none : (o : Option ℕ) → behind 0 o ≡ o
-behind-none None = refl
-behind-none (Some place) = ap Some (zero-add place)
+behind_none : (o : Option ℕ) → behind 0 o ≡ o
+behind_none None = refl
+behind_none (Some place) = ap Some (zero-add place)
 
 -- words in front of words in front
 behind-behind : (m n : ℕ) (o : Option ℕ) → behind m (behind n o) ≡ behind (m + n) o
@@ -22,9 +22,9 @@ behind-behind m n None = refl
 behind-behind m n (Some place) = ap Some (sym (add_assoc m n place))
 
 -- nothing after a search changes nothing
-or_else-none : (o : Option ℕ) → or_else o None ≡ o
-or_else-none None = refl
-or_else-none (Some place) = refl
+or_else_none : (o : Option ℕ) → or_else o None ≡ o
+or_else_none None = refl
+or_else_none (Some place) = refl
 
 -- three searches in a row
 or_else_assoc : (a b c : Option ℕ) → or_else (or_else a b) c ≡ or_else a (or_else b c)
@@ -32,17 +32,17 @@ or_else_assoc None b c = refl
 or_else_assoc (Some place) b c = refl
 
 -- m words in front of both places
-behind-both : (m n k : ℕ) (a b : Option ℕ) → m + n ≡ k → or_else (behind m a) (behind k b) ≡ behind m (or_else a (behind n b))
-behind-both m n k None b e = ap (λ x. behind x b) (sym e) ∙ sym (behind-behind m n b)
-behind-both m n k (Some place) b e = refl
+behind_both : (m n k : ℕ) (a b : Option ℕ) → m + n ≡ k → or_else (behind m a) (behind k b) ≡ behind m (or_else a (behind n b))
+behind_both m n k None b e = ap (λ x. behind x b) (sym e) ∙ sym (behind-behind m n b)
+behind_both m n k (Some place) b e = refl
 
 -- the search through two forests
 lacking-join : (has : ℕ → ℕ → Bool) (ts us : Trees) → or_else (lacking_all has ts) (behind (length (written_all ts)) (lacking_all has us)) ≡ lacking_all has (join ts us)
 unfolding lacking join written_all
-lacking-join has none us = behind-none (lacking_all has us)
+lacking-join has none us = behind_none (lacking_all has us)
 lacking-join has (more t ts) us =
     or_else_assoc (lacking has t) (behind (length (written t)) (lacking_all has ts)) (behind (length (written t ++ written_all ts)) (lacking_all has us))
-    ∙ ap (or_else (lacking has t)) (behind-both (length (written t)) (length (written_all ts)) (length (written t ++ written_all ts)) (lacking_all has ts) (lacking_all has us) (sym (length-append (written t) (written_all ts)))
+    ∙ ap (or_else (lacking has t)) (behind_both (length (written t)) (length (written_all ts)) (length (written t ++ written_all ts)) (lacking_all has ts) (lacking_all has us) (sym (length-append (written t) (written_all ts)))
     ∙ ap (behind (length (written t))) (lacking-join has ts us))
 
 -- one word of a forest, with the d dropped terms behind it: the forest that is left
@@ -67,9 +67,9 @@ less_plain has ws d ts us e h is finds = record {
 }
 
 -- a form that the stepper has
-lacking-had : (has : ℕ → ℕ → Bool) (l : ℕ) (ts : Trees) → has l (count ts) ≡ true → lacking has (form l ts) ≡ behind 1 (lacking_all has ts)
+lacking_had : (has : ℕ → ℕ → Bool) (l : ℕ) (ts : Trees) → has l (count ts) ≡ true → lacking has (form l ts) ≡ behind 1 (lacking_all has ts)
 unfolding lacking
-lacking-had has l ts e = same (has l (count ts)) e
+lacking_had has l ts e = same (has l (count ts)) e
   where
     same : (b : Bool) → b ≡ true → elim b [ false ↦ Some 0 | true ↦ behind 1 (lacking_all has ts) ] ≡ behind 1 (lacking_all has ts)
     same true f = refl
@@ -100,26 +100,26 @@ unfolding lacking written written_all WellMade WellMadeAll
 less_by has w ws d (atom v) us h k is e = less_plain has ws d (more (atom v) us) us (cc) k (cc) refl
 less_by has w ws d (variable n) us h k is e = absurd (false≢true h.0)
 less_by has w ws d (body x t) us h k is e =
-    less_plain has ws d (more (body x t) us) (more t us) (cc) (h.1, k) (cc) (behind-both 1 (length (written t)) (suc (length (written t))) (lacking has t) (lacking_all has us) (omega arith))
+    less_plain has ws d (more (body x t) us) (more t us) (cc) (h.1, k) (cc) (behind_both 1 (length (written t)) (suc (length (written t))) (lacking has t) (lacking_all has us) (omega arith))
 less_by has w ws d (head x r ds t) us h k is e =
     let many : count ds ≡ d = cc in
     let size = length (written_all ds) in
-    let behind-word : ws ≡ (written_all ds ++ written t) ++ written_all us = cc in
-    let split = behind-word ∙ append_assoc (written_all ds) (written t) (written_all us) in
+    let behind_word : ws ≡ (written_all ds ++ written t) ++ written_all us = cc in
+    let split = behind_word ∙ append_assoc (written_all ds) (written t) (written_all us) in
     record {
       size = size;
       ends = (λ j. ending false (sym many j) (split j)) ∙ all_end ds (written t ++ written_all us) h.1;
       trees = more t us;
       made = (h.2, k);
       words = ap (drop size) split ∙ drop_at (written_all ds) (written t ++ written_all us) size refl;
-      finds = behind-both (1 + size) (length (written t)) (suc (length (written_all ds ++ written t))) (lacking has t) (lacking_all has us) (let long = length-append (written_all ds) (written t) in omega arith);
+      finds = behind_both (1 + size) (length (written t)) (suc (length (written_all ds ++ written t))) (lacking has t) (lacking_all has us) (let long = length-append (written_all ds) (written t) in omega arith);
     }
 less_by has w ws d (form l ts) us h k is e =
     let had = cond_some (has l (count ts)) d e in
-    let behind-word : ws ≡ written_all ts ++ written_all us = cc in
-    less_plain has ws d (more (form l ts) us) (join ts us) had.1 (made_join ts us false h.2 k) (behind-word ∙ sym (written-join ts us))
-    (ap (λ o. or_else o (behind (suc (length (written_all ts))) (lacking_all has us))) (lacking-had has l ts had.0)
-    ∙ behind-both 1 (length (written_all ts)) (suc (length (written_all ts))) (lacking_all has ts) (lacking_all has us) (omega arith)
+    let behind_word : ws ≡ written_all ts ++ written_all us = cc in
+    less_plain has ws d (more (form l ts) us) (join ts us) had.1 (made_join ts us false h.2 k) (behind_word ∙ sym (written-join ts us))
+    (ap (λ o. or_else o (behind (suc (length (written_all ts))) (lacking_all has us))) (lacking_had has l ts had.0)
+    ∙ behind_both 1 (length (written_all ts)) (suc (length (written_all ts))) (lacking_all has ts) (lacking_all has us) (omega arith)
     ∙ ap (behind 1) (lacking-join has ts us))
 
 -- a forest that begins with a word is not empty, and the word stands for its first node
@@ -183,7 +183,7 @@ Searched has words n =
 pub searched_none : (has : ℕ → ℕ → Bool) (words : List ℕ) → Searched has words 0
 unfolding lacking written_all WellMadeAll
 searched_none has words t h e =
-    (more t none, (h, tt), e ∙ sym (append-nil (written t)), sym (behind-none (or_else (lacking has t) None) ∙ or_else-none (lacking has t)))
+    (more t none, (h, tt), e ∙ sym (append-nil (written t)), sym (behind_none (or_else (lacking has t) None) ∙ or_else_none (lacking has t)))
 
 module _ (has : ℕ → ℕ → Bool) (words : List ℕ) (n : ℕ) (p : Searched has words n) where
   -- behind the last word there is no such form

@@ -119,7 +119,7 @@ inside_there words n t b e h =
     no_front (core t) (subst (λ l. BeginsWith l (core t)) (drop_all n words h) (core_begins words n t b e))
 
 -- and that word shows what is seen of the term
-pub inside-seen : (words : List ℕ) (n : ℕ) (t : Tree) → BeginsWith words t → n ≡ marks_length t → n < length words → seen_by (node_of (get_or words n 0)) ≡ Some (seen t)
-inside-seen words n t b e h =
+pub inside_seen : (words : List ℕ) (n : ℕ) (t : Tree) → BeginsWith words t → n ≡ marks_length t → n < length words → seen_by (node_of (get_or words n 0)) ≡ Some (seen t)
+inside_seen words n t b e h =
     ap seen_by (front_node (get_or words n 0) (drop (n + 1) words) (core t) (subst (λ l. BeginsWith l (core t)) (drop_more words n 0 h) (core_begins words n t b e)))
     ∙ core_seen t b.0

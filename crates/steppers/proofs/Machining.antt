@@ -5,7 +5,7 @@ use Rattle.std.specs.declared.alloc.Global.{Global}
 use Rattle.std.proofs.lemmas.List.{append-nil}
 use Rattle.std.proofs.lemmas.Bool.{leb-true, le-leb, lt-leb}
 use Rattle.terms.specs.Trees.{Tree, written, read, WellFormed, term_of}
-use Rattle.terms.proofs.Readings.{term-read}
+use Rattle.terms.proofs.Readings.{term_read}
 use Rattle.languages.specs.declared.refusal.Refusal.{Refusal}
 use Rattle.languages.specs.declared.refusal.Refusal.TheVariants.{NothingHeld, ShortBuffer}
 use Rattle.languages.specs.declared.answers.Stepped.{Stepped}
@@ -25,8 +25,8 @@ use Rattle.steppers.specs.Places.{spot_of}
 use Rattle.steppers.specs.Placed.{OverAt, FoundIn}
 use Rattle.steppers.specs.Written.{Wordable, rewritten, Settled}
 use Rattle.steppers.specs.Closing.{next_kept}
-use Rattle.steppers.specs.Loading.{loadable, expands_to, Held, empty, term, held_words, term-holdable}
-use Rattle.steppers.proofs.Stepping.{rule-ended, rule-waits, rule-sticks, no_child, rule_replaces}
+use Rattle.steppers.specs.Loading.{loadable, expands_to, Held, empty, term, held_words, term_holdable}
+use Rattle.steppers.proofs.Stepping.{rule_ended, rule_waits, rule_sticks, no_child, rule_replaces}
 
 pub no_term : (ws : List ℕ) → ws ≡ [] → term_of ws ≡ None
 unfolding term_of read
@@ -37,15 +37,15 @@ no_items [] n e z = refl
 no_items (w ∷ ws) n e z = absurd (let y : ⊥ = omega (arith, e, z) in y)
 
 -- the term that the words are
-held-term : (ws : List ℕ) (t : Tree) → WellFormed t → written t ≡ ws → term_of ws ≡ Some t
-held-term ws t formed e = ap term_of (sym e) ∙ term-read t false formed
+held_term : (ws : List ℕ) (t : Tree) → WellFormed t → written t ≡ ws → term_of ws ≡ Some t
+held_term ws t formed e = ap term_of (sym e) ∙ term_read t false formed
 
 pub begins : (ws : List ℕ) (t : Tree) → WellFormed t → written t ≡ ws → BeginsWith ws t
 begins ws t formed e = (formed, ([], sym e ∙ sym (append-nil (written t))))
 
 -- words that may be held, and are some
-pub some-term : (ws : List ℕ) (n : ℕ) → holdable ws ≡ true → n ≡ length ws → (n ≡ 0 → ⊥) → (t : Tree) × WellFormed t × (written t ≡ ws) × (length ws ≤ 1024)
-some-term ws n holds e some = by_held (held_words ws holds)
+pub some_term : (ws : List ℕ) (n : ℕ) → holdable ws ≡ true → n ≡ length ws → (n ≡ 0 → ⊥) → (t : Tree) × WellFormed t × (written t ≡ ws) × (length ws ≤ 1024)
+some_term ws n holds e some = by_held (held_words ws holds)
   where
     by_held : Held ws → (t : Tree) × WellFormed t × (written t ≡ ws) × (length ws ≤ 1024)
     by_held (empty h) = absurd (some (e ∙ ap length h))
@@ -72,8 +72,8 @@ module _ (table : Table) (sound : Sound table) where
           let size : length words ≡ length (written e.term) = ap length (sym l.spelled) in
           let none : e.uses ≡ 0 = ap (λ x. x.uses) uses in
           let answer : Ok (record { words = length words; uses = 0 }) ≡ Ok (record { words = length (written e.term); uses = e.uses }) = cc in
-          let held = held-term words e.term l.formed l.spelled in
-          (rw (v, Loads) (answer, held), term-holdable e.term words l.formed l.spelled few, few)
+          let held = held_term words e.term l.formed l.spelled in
+          (rw (v, Loads) (answer, held), term_holdable e.term words l.formed l.spelled few, few)
 
   pub loads_refused : (words : List ℕ) (was : Option Tree) (refusal : Refusal) → Same (Err refusal) (verdict (expansion_of table words)) → Loads (meaning_of table) words was (Err refusal) was
   loads_refused words was refusal h = by_expansion (expansion_of table words) refl h
@@ -94,7 +94,7 @@ module _ (table : Table) (sound : Sound table) where
   -- a term is held, and has not ended
   pub going : (ws other : List ℕ) (n : ℕ) → holdable ws ≡ true → n ≡ length ws → (n ≡ 0 → ⊥) → other ≡ ws → OverAt table other false → (t : Tree) × WellFormed t × (written t ≡ ws) × (length ws ≤ 1024) × (table.over (seen t) ≡ false)
   going ws other n holds size some same over =
-      let t = some-term ws n holds size some in
+      let t = some_term ws n holds size some in
       (t.0, t.1, t.2, t.3, sym (over t.0 (begins other t.0 t.1 (t.2 ∙ sym same))))
 
   -- a step with nothing held
@@ -108,10 +108,10 @@ module _ (table : Table) (sound : Sound table) where
 
   module _ (ws : List ℕ) (image : ℕ) (t : Tree) (formed : WellFormed t) (e : written t ≡ ws) where
     abbrev held : term_of ws ≡ Some t
-    held = held-term ws t formed e
+    held = held_term ws t formed e
 
     pub steps_ended : table.over (seen t) ≡ true → StepGives (meaning_of table) image (term_of ws) (Ok Ended) (term_of ws)
-    steps_ended over = steps_by ws image t ended Ended (term_of ws) held (rule-ended table t image over) (refl, held)
+    steps_ended over = steps_by ws image t ended Ended (term_of ws) held (rule_ended table t image over) (refl, held)
 
     module _ (over : table.over (seen t) ≡ false) (spot : Spot) (found : FoundIn table ws image spot) where
       there : spot ≡ spot_of table t image 0 0
@@ -131,7 +131,7 @@ module _ (table : Table) (sound : Sound table) where
 
       pub steps_waits : spot.action ≡ action.Wait → StepGives (meaning_of table) image (term_of ws) (Ok (cond (leb (length ws) table.capacity) (Moved 0) Full)) (term_of ws)
       steps_waits h =
-          let rule = rule-waits table sound t image formed over (acts action.Wait h) in
+          let rule = rule_waits table sound t image formed over (acts action.Wait h) in
           steps_next 0 t (leb (length ws) table.capacity) (term_of ws) rule (ap (λ xs. leb (length xs) table.capacity) e) (held ∙ either (leb (length ws) table.capacity))
         where
           either : (b : Bool) → Some t ≡ cond b (Some t) (Some t)
@@ -139,7 +139,7 @@ module _ (table : Table) (sound : Sound table) where
           either false = refl
 
       pub steps_sticks : spot.action ≡ action.Stuck → StepGives (meaning_of table) image (term_of ws) (Ok Stuck) (term_of ws)
-      steps_sticks h = steps_by ws image t stuck Stuck (term_of ws) held (rule-sticks table sound t image formed over (acts action.Stuck h)) (refl, held)
+      steps_sticks h = steps_by ws image t stuck Stuck (term_of ws) held (rule_sticks table sound t image formed over (acts action.Stuck h)) (refl, held)
 
       pub steps_no_child : (i : ℕ) → spot.action ≡ action.Child i → ⊥
       steps_no_child i h = no_child table sound t image formed over i (acts (action.Child i) h)
@@ -164,18 +164,18 @@ module _ (table : Table) (sound : Sound table) where
             wordable = r.wordable;
             outer_within = subst (λ s. s.outer ≤ length ws) (sym there) (subst (λ xs. (spot_of table t image 0 0).outer ≤ length xs) e r.outer_within);
             node_within = subst (λ s. s.node ≤ length ws) (sym there) (subst (λ xs. (spot_of table t image 0 0).node ≤ length xs) e r.node_within);
-            fitting = λ is fits same. let spelled : written next ≡ is = sym words ∙ sym same in let few = leb-true (length (written next)) table.capacity (size ∙ fits) in let small : length is ≤ 1024 = subst (λ xs. length xs ≤ 1024) spelled (omega (arith, few, sound.holds_few)) in (term-holdable next is kept.0 spelled small, steps_next effect next true (term_of is) r.rule (size ∙ fits) (held-term is next kept.0 spelled));
+            fitting = λ is fits same. let spelled : written next ≡ is = sym words ∙ sym same in let few = leb-true (length (written next)) table.capacity (size ∙ fits) in let small : length is ≤ 1024 = subst (λ xs. length xs ≤ 1024) spelled (omega (arith, few, sound.holds_few)) in (term_holdable next is kept.0 spelled small, steps_next effect next true (term_of is) r.rule (size ∙ fits) (held_term is next kept.0 spelled));
             full = λ over. steps_next effect next false (term_of ws) r.rule (size ∙ over) held;
           }
 
       -- what is held behind the step: the next term if it fits, else the term as it was
       pub settles : (effect : ℕ) (by : Made) (v w v' w' : Vec ℕ Global) (fits : Bool) → Rewrites effect by → vec_items v ≡ ws → fits ≡ leb (length (rewritten ws spot.outer spot.node by)) table.capacity → (fits ≡ true → vec_items w ≡ rewritten ws spot.outer spot.node by) → 1024 ≤ vec_capacity v → 1024 ≤ vec_capacity w → holdable ws ≡ true → Settled fits v w v' w' → (holdable (vec_items v') ≡ true) × (1024 ≤ vec_capacity v') × (1024 ≤ vec_capacity w') × StepGives (meaning_of table) image (term_of ws) (Ok (cond fits (Moved effect) Full)) (term_of (vec_items v'))
-      settles effect by v w v' w' true r was size items room more_Room holds (a, b) =
+      settles effect by v w v' w' true r was size items room more_room holds (a, b) =
           let next = r.fitting (vec_items v') (sym size) (ap vec_items a ∙ items refl) in
-          (next.0, subst (λ x. 1024 ≤ vec_capacity x) (sym a) more_Room, subst (λ x. 1024 ≤ vec_capacity x) (sym b) room, next.1)
-      settles effect by v w v' w' false r was size items room more_Room holds (a, b) =
+          (next.0, subst (λ x. 1024 ≤ vec_capacity x) (sym a) more_room, subst (λ x. 1024 ≤ vec_capacity x) (sym b) room, next.1)
+      settles effect by v w v' w' false r was size items room more_room holds (a, b) =
           let same : vec_items v' ≡ ws = ap vec_items a ∙ was in
-          (ap holdable same ∙ holds, subst (λ x. 1024 ≤ vec_capacity x) (sym a) room, subst (λ x. 1024 ≤ vec_capacity x) (sym b) more_Room, subst (λ xs. StepGives (meaning_of table) image (term_of ws) (Ok Full) (term_of xs)) (sym same) (r.full (sym size)))
+          (ap holdable same ∙ holds, subst (λ x. 1024 ≤ vec_capacity x) (sym a) room, subst (λ x. 1024 ≤ vec_capacity x) (sym b) more_room, subst (λ xs. StepGives (meaning_of table) image (term_of ws) (Ok Full) (term_of xs)) (sym same) (r.full (sym size)))
 
 -- a show: the term held, or its refusals
 module _ (table : Table) (sound : Sound table) where
@@ -192,7 +192,7 @@ module _ (table : Table) (sound : Sound table) where
     with_held : (r : Option ℕ) (after : List ℕ) → ShowGives (meaning_of table) t buffer r after → BufferShowGives (meaning_of table) (term_of ws) buffer (Ok r) after
     with_held r after h =
         let enough = le-leb 1024 (length buffer) long in
-        rw (enough, BufferShowGives) (subst (λ o. HeldShowGives (meaning_of table) o buffer (Ok r) after) (sym (held-term ws t formed e)) h)
+        rw (enough, BufferShowGives) (subst (λ o. HeldShowGives (meaning_of table) o buffer (Ok r) after) (sym (held_term ws t formed e)) h)
 
     -- the stepper would load what is held: that is shown
     pub shows_term : (x : Unit {0}) → Same (Ok x) (verdict (expansion_of table ws)) → BufferShowGives (meaning_of table) (term_of ws) buffer (Ok (Some (length ws))) (ws ++ drop (length ws) buffer)
@@ -204,7 +204,7 @@ module _ (table : Table) (sound : Sound table) where
             let l = loadable table ws d v in
             let few : length (written t) ≤ 1024 = subst (λ xs. length xs ≤ 1024) (sym e) (omega (arith, l.few, sound.holds_few)) in
             let expands : expansion_of table (written t) ≡ Ok d = ap (expansion_of table) e ∙ v in
-            let same : d.term ≡ t = let a = held-term ws d.term l.formed l.spelled in let b = held-term ws t formed e in cc in
+            let same : d.term ≡ t = let a = held_term ws d.term l.formed l.spelled in let b = held_term ws t formed e in cc in
             with_held (Some (length ws)) (ws ++ drop (length ws) buffer) (t, (formed, few, (d, expands, same)), ap length (sym e), ap (λ xs. xs ++ drop (length ws) buffer) (sym e))
 
     -- it would not: nothing expands to it

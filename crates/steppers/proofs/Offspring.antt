@@ -132,16 +132,16 @@ seen_of None = None
 seen_of (Some t) = Some (seen t)
 
 -- what is seen at i is seen of tree i
-seen-nth : (i : ℕ) (ts : Trees) → seen_at i (seen_all ts) ≡ seen_of (nth i ts)
+seen_nth : (i : ℕ) (ts : Trees) → seen_at i (seen_all ts) ≡ seen_of (nth i ts)
 unfolding seen_at seen_all nth
-seen-nth zero none = refl
-seen-nth (suc i) none = refl
-seen-nth zero (more t ts) = refl
-seen-nth (suc i) (more t ts) = seen-nth i ts
+seen_nth zero none = refl
+seen_nth (suc i) none = refl
+seen_nth zero (more t ts) = refl
+seen_nth (suc i) (more t ts) = seen_nth i ts
 
 -- nothing is seen of a child that is not there
 pub child_unseen : (words : List ℕ) (i : ℕ) → StartOf words i None → SeenChild words i None
-child_unseen words i s l ts b = sym (seen-nth i ts ∙ ap seen_of (s l ts b))
+child_unseen words i s l ts b = sym (seen_nth i ts ∙ ap seen_of (s l ts b))
 
 -- what is seen where child i begins is seen of child i
 pub child_seen : (words : List ℕ) (i start : ℕ) (r : Option Seen) → StartOf words i (Some start) → SeenOf (drop start words) r → SeenChild words i r
@@ -149,4 +149,4 @@ child_seen words i start r s look l ts b =
     let at = s.2 l ts b in
     let n = child_there words l ts i b at.0 in
     look n.tree (subst (λ k. BeginsWith (drop k words) n.tree) (sym at.1) n.begins)
-    ∙ sym (seen-nth i ts ∙ ap seen_of n.is)
+    ∙ sym (seen_nth i ts ∙ ap seen_of n.is)

@@ -11,7 +11,7 @@ use Rattle.steppers.specs.Steps.{pick, fill}
 use Rattle.steppers.specs.Logic.{bit}
 use Rattle.steppers.specs.Sequence.{is_nop, nop_with, channel_of, goes_on, switches, awaits, repeats, sequence_table}
 use Rattle.steppers.specs.SequenceRows.{SequenceRows}
-use Rattle.steppers.proofs.Wrapped.{rule-number, form_ends, form-acts, first_steps}
+use Rattle.steppers.proofs.Wrapped.{rule_number, form_ends, form_acts, first_steps}
 
 -- what is seen is no NOP
 not_nop : (s : Seen) → (s ≡ Form 38 → ⊥) → is_nop s ≡ false
@@ -36,17 +36,17 @@ unfolding count seen_all seen_at fill pick nth
 sequence_rows =
     record {
       nop_ends = λ ms image. form_ends sequence_table image ms 38 none refl;
-      number_is_stuck = λ t v image e. rule-number sequence_table image t v refl e;
-      seq_of_nop = λ ms a b image e. form-acts sequence_table image ms 32 refl (more a (more b none)) (ap goes_on e);
+      number_is_stuck = λ t v image e. rule_number sequence_table image t v refl e;
+      seq_of_nop = λ ms a b image e. form_acts sequence_table image ms 32 refl (more a (more b none)) (ap goes_on e);
       seq_steps_its_first = λ ms a b image h. first_steps sequence_table image ms 32 refl a (more b none) (not_nop (seen a) h) (ap (λ t. cond t (Replace 0 (made.Child 1)) (Child 0)) (not_nop (seen a) h));
-      set_switches_on = λ ms a n image e h. form-acts sequence_table image ms 33 refl (more a none) (by_channel 100 (seen a) (channel n e h));
-      clear_switches_off = λ ms a n image e h. form-acts sequence_table image ms 34 refl (more a none) (by_channel 200 (seen a) (channel n e h));
-      await_is_met = λ ms a n image e h on. form-acts sequence_table image ms 35 refl (more a none) (awaits_channel image (seen a) (channel n e h) ∙ ap (λ x. cond (eqb x 1) (nop_with 0) Wait) on);
-      await_waits = λ ms a n image e h off. form-acts sequence_table image ms 35 refl (more a none) (awaits_channel image (seen a) (channel n e h) ∙ ap (λ x. cond (eqb x 1) (nop_with 0) Wait) off);
-      set_is_stuck = λ ms a image e. form-acts sequence_table image ms 33 refl (more a none) (by_channel 100 (seen a) e);
-      clear_is_stuck = λ ms a image e. form-acts sequence_table image ms 34 refl (more a none) (by_channel 200 (seen a) e);
-      await_is_stuck = λ ms a image e. form-acts sequence_table image ms 35 refl (more a none) (awaits_channel image (seen a) e);
-      repeat_no_more = λ ms k b image e. form-acts sequence_table image ms 36 refl (more k (more b none)) (ap repeats e);
-      repeat_once_more = λ ms k b n image e h. form-acts sequence_table image ms 36 refl (more k (more b none)) (ap repeats e ∙ ap (λ t. cond t (nop_with 0) (Replace 0 (made.Round 32 36 (n - 1) 1))) (ne_eqb n 0 (λ z. omega arith)));
-      repeat_is_stuck = λ ms k b l image e. form-acts sequence_table image ms 36 refl (more k (more b none)) (ap repeats e);
+      set_switches_on = λ ms a n image e h. form_acts sequence_table image ms 33 refl (more a none) (by_channel 100 (seen a) (channel n e h));
+      clear_switches_off = λ ms a n image e h. form_acts sequence_table image ms 34 refl (more a none) (by_channel 200 (seen a) (channel n e h));
+      await_is_met = λ ms a n image e h on. form_acts sequence_table image ms 35 refl (more a none) (awaits_channel image (seen a) (channel n e h) ∙ ap (λ x. cond (eqb x 1) (nop_with 0) Wait) on);
+      await_waits = λ ms a n image e h off. form_acts sequence_table image ms 35 refl (more a none) (awaits_channel image (seen a) (channel n e h) ∙ ap (λ x. cond (eqb x 1) (nop_with 0) Wait) off);
+      set_is_stuck = λ ms a image e. form_acts sequence_table image ms 33 refl (more a none) (by_channel 100 (seen a) e);
+      clear_is_stuck = λ ms a image e. form_acts sequence_table image ms 34 refl (more a none) (by_channel 200 (seen a) e);
+      await_is_stuck = λ ms a image e. form_acts sequence_table image ms 35 refl (more a none) (awaits_channel image (seen a) e);
+      repeat_no_more = λ ms k b image e. form_acts sequence_table image ms 36 refl (more k (more b none)) (ap repeats e);
+      repeat_once_more = λ ms k b n image e h. form_acts sequence_table image ms 36 refl (more k (more b none)) (ap repeats e ∙ ap (λ t. cond t (nop_with 0) (Replace 0 (made.Round 32 36 (n - 1) 1))) (ne_eqb n 0 (λ z. omega arith)));
+      repeat_is_stuck = λ ms k b l image e. form_acts sequence_table image ms 36 refl (more k (more b none)) (ap repeats e);
     }

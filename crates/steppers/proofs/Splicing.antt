@@ -36,11 +36,11 @@ module _ (table : Table) (sound : Sound table) (image : ℕ) (ws : List ℕ) whe
   Shown s bare marked sticks = s.action ≡ action.Stuck
 
   -- a mark around a part: its words are the first of those that stay in front of the part
-  around-shown : (s : Spot) (mark : Tree → Tree) (bare marked outside : Tree → List ℕ) → ((t : Tree) → marked t ≡ outside (mark t)) → (c : Change Tree) → Shown s bare marked c → Shown s bare outside (around mark c)
-  around-shown s mark bare marked outside same (replaced effect t) h = h
-  around-shown s mark bare marked outside same (within effect t) h = subst (Spliced s effect) (same t) h
-  around-shown s mark bare marked outside same waits h = h
-  around-shown s mark bare marked outside same sticks h = h
+  around_shown : (s : Spot) (mark : Tree → Tree) (bare marked outside : Tree → List ℕ) → ((t : Tree) → marked t ≡ outside (mark t)) → (c : Change Tree) → Shown s bare marked c → Shown s bare outside (around mark c)
+  around_shown s mark bare marked outside same (replaced effect t) h = h
+  around_shown s mark bare marked outside same (within effect t) h = subst (Spliced s effect) (same t) h
+  around_shown s mark bare marked outside same waits h = h
+  around_shown s mark bare marked outside same sticks h = h
 
   before_shown : (s : Spot) (ts : Trees) (bare : Tree → List ℕ) (outside : Trees → List ℕ) → ((t : Tree) → bare t ≡ outside (more t ts)) → (c : Change Tree) → Shown s bare bare c → Shown s outside outside (child_before ts c)
   before_shown s ts bare outside same (replaced effect t) h = subst (Spliced s effect) (same t) h
@@ -48,11 +48,11 @@ module _ (table : Table) (sound : Sound table) (image : ℕ) (ws : List ℕ) whe
   before_shown s ts bare outside same waits h = h
   before_shown s ts bare outside same sticks h = h
 
-  behind-shown : (s : Spot) (t : Tree) (inside outside : Trees → List ℕ) → ((ts : Trees) → inside ts ≡ outside (more t ts)) → (c : Change Trees) → Shown s inside inside c → Shown s outside outside (children_behind t c)
-  behind-shown s t inside outside same (replaced effect ts) h = subst (Spliced s effect) (same ts) h
-  behind-shown s t inside outside same (within effect ts) h = subst (Spliced s effect) (same ts) h
-  behind-shown s t inside outside same waits h = h
-  behind-shown s t inside outside same sticks h = h
+  behind_shown : (s : Spot) (t : Tree) (inside outside : Trees → List ℕ) → ((ts : Trees) → inside ts ≡ outside (more t ts)) → (c : Change Trees) → Shown s inside inside c → Shown s outside outside (children_behind t c)
+  behind_shown s t inside outside same (replaced effect ts) h = subst (Spliced s effect) (same ts) h
+  behind_shown s t inside outside same (within effect ts) h = subst (Spliced s effect) (same ts) h
+  behind_shown s t inside outside same waits h = h
+  behind_shown s t inside outside same sticks h = h
 
   abbrev Counted : ℕ → Change Trees → Type 0
   Counted n (replaced effect ts) = count ts ≡ n
@@ -60,11 +60,11 @@ module _ (table : Table) (sound : Sound table) (image : ℕ) (ws : List ℕ) whe
   Counted n waits = Unit {0}
   Counted n sticks = Unit {0}
 
-  in_form-shown : (s : Spot) (l n : ℕ) (inside : Trees → List ℕ) (bare outside : Tree → List ℕ) → ((ts : Trees) → count ts ≡ n → inside ts ≡ outside (form l ts)) → (c : Change Trees) → Counted n c → Shown s inside inside c → Shown s bare outside (in_form l c)
-  in_form-shown s l n inside bare outside same (replaced effect ts) e h = subst (Spliced s effect) (same ts e) h
-  in_form-shown s l n inside bare outside same (within effect ts) e h = subst (Spliced s effect) (same ts e) h
-  in_form-shown s l n inside bare outside same waits e h = h
-  in_form-shown s l n inside bare outside same sticks e h = h
+  in_form_shown : (s : Spot) (l n : ℕ) (inside : Trees → List ℕ) (bare outside : Tree → List ℕ) → ((ts : Trees) → count ts ≡ n → inside ts ≡ outside (form l ts)) → (c : Change Trees) → Counted n c → Shown s inside inside c → Shown s bare outside (in_form l c)
+  in_form_shown s l n inside bare outside same (replaced effect ts) e h = subst (Spliced s effect) (same ts e) h
+  in_form_shown s l n inside bare outside same (within effect ts) e h = subst (Spliced s effect) (same ts e) h
+  in_form_shown s l n inside bare outside same waits e h = h
+  in_form_shown s l n inside bare outside same sticks e h = h
 
   -- a step of a child keeps their number
   before_counted : (t : Tree) (ts : Trees) (c : Change Tree) → Counted (count (more t ts)) (child_before ts c)
@@ -134,13 +134,13 @@ module _ (table : Table) (sound : Sound table) (image : ℕ) (ws : List ℕ) whe
         result = sym (ap (λ xs. xs ++ (written (fill by ts) ++ post)) (ap (take outer) e ∙ take_at pre (mk ++ (written (form l ts) ++ post)) outer (sym o)));
       }
 
-  given-shown : (l : ℕ) (ts : Trees) (pre mk post : List ℕ) (outer here : ℕ) (child : ℕ → Spot) → WellFormed (form l ts) → outer ≡ length pre → here ≡ length pre + length mk → ws ≡ pre ++ (mk ++ (written (form l ts) ++ post)) → ((i : ℕ) → Shown (child i) (λ us. (pre ++ (mk ++ (word l (count ts) ∷ []))) ++ (written_all us ++ post)) (λ us. (pre ++ (mk ++ (word l (count ts) ∷ []))) ++ (written_all us ++ post)) (child_step table ts i image)) → (a : Action) → ActsSoundly table.has (count ts) a → Shown (spot_given outer here child a) (λ n. pre ++ (written n ++ post)) (λ n. pre ++ (mk ++ (written n ++ post))) (given l ts (λ i. child_step table ts i image) a)
+  given_shown : (l : ℕ) (ts : Trees) (pre mk post : List ℕ) (outer here : ℕ) (child : ℕ → Spot) → WellFormed (form l ts) → outer ≡ length pre → here ≡ length pre + length mk → ws ≡ pre ++ (mk ++ (written (form l ts) ++ post)) → ((i : ℕ) → Shown (child i) (λ us. (pre ++ (mk ++ (word l (count ts) ∷ []))) ++ (written_all us ++ post)) (λ us. (pre ++ (mk ++ (word l (count ts) ∷ []))) ++ (written_all us ++ post)) (child_step table ts i image)) → (a : Action) → ActsSoundly table.has (count ts) a → Shown (spot_given outer here child a) (λ n. pre ++ (written n ++ post)) (λ n. pre ++ (mk ++ (written n ++ post))) (given l ts (λ i. child_step table ts i image) a)
   unfolding written
-  given-shown l ts pre mk post outer here child formed o h e shown (action.Child i) s =
-      in_form-shown (child i) l (count ts) (λ us. (pre ++ (mk ++ (word l (count ts) ∷ []))) ++ (written_all us ++ post)) (λ n. pre ++ (written n ++ post)) (λ n. pre ++ (mk ++ (written n ++ post))) (λ us same. children_front pre mk (word l (count ts)) (written_all us) post ∙ ap (λ n. pre ++ (mk ++ ((word l n ∷ written_all us) ++ post))) (sym same)) (child_step table ts i image) (child_counted ts i) (shown i)
-  given-shown l ts pre mk post outer here child formed o h e shown (action.Replace effect by) s = replaced_here l ts pre mk post outer here effect by formed s o h e
-  given-shown l ts pre mk post outer here child formed o h e shown action.Wait s = refl
-  given-shown l ts pre mk post outer here child formed o h e shown action.Stuck s = refl
+  given_shown l ts pre mk post outer here child formed o h e shown (action.Child i) s =
+      in_form_shown (child i) l (count ts) (λ us. (pre ++ (mk ++ (word l (count ts) ∷ []))) ++ (written_all us ++ post)) (λ n. pre ++ (written n ++ post)) (λ n. pre ++ (mk ++ (written n ++ post))) (λ us same. children_front pre mk (word l (count ts)) (written_all us) post ∙ ap (λ n. pre ++ (mk ++ ((word l n ∷ written_all us) ++ post))) (sym same)) (child_step table ts i image) (child_counted ts i) (shown i)
+  given_shown l ts pre mk post outer here child formed o h e shown (action.Replace effect by) s = replaced_here l ts pre mk post outer here effect by formed s o h e
+  given_shown l ts pre mk post outer here child formed o h e shown action.Wait s = refl
+  given_shown l ts pre mk post outer here child formed o h e shown action.Stuck s = refl
 
   mutual
     unfolding step_of child_step spot_of spot_in written written_all WellMade WellMadeAll
@@ -152,17 +152,17 @@ module _ (table : Table) (sound : Sound table) (image : ℕ) (ws : List ℕ) whe
     tree_shown (body k t) pre mk post outer here f o h e =
         let front = word 3 k ∷ [] in
         let longer = length-append mk front in
-        around-shown (spot_of table t image outer (here + 1)) (body k) (λ n. pre ++ (written n ++ post)) (λ n. pre ++ ((mk ++ front) ++ (written n ++ post))) (λ n. pre ++ (mk ++ (written n ++ post))) (λ n. marks_front pre mk front (written n) post) (step_of table t image) (tree_shown t pre (mk ++ front) post outer (here + 1) f.1 o (omega (arith, h, longer)) (e ∙ sym (marks_front pre mk front (written t) post)))
+        around_shown (spot_of table t image outer (here + 1)) (body k) (λ n. pre ++ (written n ++ post)) (λ n. pre ++ ((mk ++ front) ++ (written n ++ post))) (λ n. pre ++ (mk ++ (written n ++ post))) (λ n. marks_front pre mk front (written n) post) (step_of table t image) (tree_shown t pre (mk ++ front) post outer (here + 1) f.1 o (omega (arith, h, longer)) (e ∙ sym (marks_front pre mk front (written t) post)))
     tree_shown (head k r ds t) pre mk post outer here f o h e =
         let front = word 4 (head_payload k r (count ds)) ∷ written_all ds in
         let longer = length-append mk front in
-        around-shown (spot_of table t image outer (here + (1 + length (written_all ds)))) (head k r ds) (λ n. pre ++ (written n ++ post)) (λ n. pre ++ ((mk ++ front) ++ (written n ++ post))) (λ n. pre ++ (mk ++ (written n ++ post))) (λ n. marks_front pre mk front (written n) post) (step_of table t image) (tree_shown t pre (mk ++ front) post outer (here + (1 + length (written_all ds))) f.2 o (omega (arith, h, longer)) (e ∙ sym (marks_front pre mk front (written t) post)))
+        around_shown (spot_of table t image outer (here + (1 + length (written_all ds)))) (head k r ds) (λ n. pre ++ (written n ++ post)) (λ n. pre ++ ((mk ++ front) ++ (written n ++ post))) (λ n. pre ++ (mk ++ (written n ++ post))) (λ n. marks_front pre mk front (written n) post) (step_of table t image) (tree_shown t pre (mk ++ front) post outer (here + (1 + length (written_all ds))) f.2 o (omega (arith, h, longer)) (e ∙ sym (marks_front pre mk front (written t) post)))
     tree_shown (form l ts) pre mk post outer here f o h e =
         let w = word l (count ts) in
         let inner = pre ++ (mk ++ (w ∷ [])) in
         let size = length-append pre (mk ++ (w ∷ [])) in
         let size2 = length-append mk (w ∷ []) in
-        let shown = given-shown l ts pre mk post outer here (λ i. spot_in table ts i image outer here (here + 1)) f o h e (λ i. children_shown ts i inner post outer here (here + 1) f.2 (omega (arith, h, size, size2)) (e ∙ sym (children_front pre mk w (written_all ts) post))) (action_at table l ts image) (action_sound table sound l ts image f.2) in
+        let shown = given_shown l ts pre mk post outer here (λ i. spot_in table ts i image outer here (here + 1)) f o h e (λ i. children_shown ts i inner post outer here (here + 1) f.2 (omega (arith, h, size, size2)) (e ∙ sym (children_front pre mk w (written_all ts) post))) (action_at table l ts image) (action_sound table sound l ts image f.2) in
         subst (λ c. Shown (spot_of table (form l ts) image outer here) (λ n. pre ++ (written n ++ post)) (λ n. pre ++ (mk ++ (written n ++ post))) c) (sym (form-given table l ts image)) (subst (λ s. Shown s (λ n. pre ++ (written n ++ post)) (λ n. pre ++ (mk ++ (written n ++ post))) (given l ts (λ i. child_step table ts i image) (action_at table l ts image))) (sym (form_spot l ts outer here)) shown)
 
     -- a step of child i of the children that stand behind `pre`
@@ -173,4 +173,4 @@ module _ (table : Table) (sound : Sound table) (image : ℕ) (ws : List ℕ) whe
     children_shown (more t ts) (suc i) pre post outer here place f p e =
         let size = length-append pre (written t) in
         let group : (us : Trees) → (pre ++ written t) ++ (written_all us ++ post) ≡ pre ++ (written_all (more t us) ++ post) = λ us. append_assoc pre (written t) (written_all us ++ post) ∙ ap (λ xs. pre ++ xs) (sym (append_assoc (written t) (written_all us) post)) in
-        behind-shown (spot_in table ts i image outer here (place + length (written t))) t (λ us. (pre ++ written t) ++ (written_all us ++ post)) (λ us. pre ++ (written_all us ++ post)) group (child_step table ts i image) (children_shown ts i (pre ++ written t) post outer here (place + length (written t)) f.1 (omega (arith, p, size)) (e ∙ sym (group ts)))
+        behind_shown (spot_in table ts i image outer here (place + length (written t))) t (λ us. (pre ++ written t) ++ (written_all us ++ post)) (λ us. pre ++ (written_all us ++ post)) group (child_step table ts i image) (children_shown ts i (pre ++ written t) post outer here (place + length (written t)) f.1 (omega (arith, p, size)) (e ∙ sym (group ts)))

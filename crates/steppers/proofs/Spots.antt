@@ -168,8 +168,8 @@ module _ (table : Table) (words : List ℕ) (image outer : ℕ) (p : Spotted tab
     at_form t h e = stepped table (core (p t h e).0) image i (sym is ∙ act (core (p t h e).0) (at_core t h e))
 
     -- the words of that form
-    form-begins : (t : Tree) (h : WellFormed t) (e : words ≡ written t) → BeginsWith (drop (outer + n) words) (form (at_form t h e).label (at_form t h e).children)
-    form-begins t h e = subst (BeginsWith (drop (outer + n) words)) (at_form t h e).is (at_core t h e)
+    form_begins : (t : Tree) (h : WellFormed t) (e : words ≡ written t) → BeginsWith (drop (outer + n) words) (form (at_form t h e).label (at_form t h e).children)
+    form_begins t h e = subst (BeginsWith (drop (outer + n) words)) (at_form t h e).is (at_core t h e)
 
     -- the way goes on in its child
     to_child : (t : Tree) (h : WellFormed t) (e : words ≡ written t) → spot_of table t image 0 0 ≡ spot_nth table (nth i (at_form t h e).children) image outer (outer + n) (outer + n + 1 + length_before i (at_form t h e).children)
@@ -185,19 +185,19 @@ module _ (table : Table) (words : List ℕ) (image outer : ℕ) (p : Spotted tab
     pub spotted_no_child : StartOf (drop (outer + n) words) i None → (t : Tree) → WellFormed t → words ≡ written t → record { outer = outer; node = outer + n; action = action.Stuck } ≡ spot_of table t image 0 0
     spotted_no_child s t h e =
         let f = at_form t h e in
-        sym (to_child t h e ∙ ap (λ o. spot_nth table o image outer (outer + n) (outer + n + 1 + length_before i f.children)) (s f.label f.children (form-begins t h e)))
+        sym (to_child t h e ∙ ap (λ o. spot_nth table o image outer (outer + n) (outer + n + 1 + length_before i f.children)) (s f.label f.children (form_begins t h e)))
 
     -- the way goes on in the child
     pub spotted_child : (start : ℕ) → StartOf (drop (outer + n) words) i (Some start) → Spotted table words image (outer + n + start)
     spotted_child start s t h e =
         let f = at_form t h e in
-        let there = s.2 f.label f.children (form-begins t h e) in
-        let child = child_there (drop (outer + n) words) f.label f.children i (form-begins t h e) there.0 in
+        let there = s.2 f.label f.children (form_begins t h e) in
+        let child = child_there (drop (outer + n) words) f.label f.children i (form_begins t h e) there.0 in
         let place : outer + n + 1 + length_before i f.children ≡ outer + n + start = let s = there.1 in omega arith in
-        let words-there : drop (1 + length_before i f.children) (drop (outer + n) words) ≡ drop (outer + n + start) words =
+        let words_there : drop (1 + length_before i f.children) (drop (outer + n) words) ≡ drop (outer + n + start) words =
         drop-drop (1 + length_before i f.children) (outer + n) words ∙ ap (λ k. drop (outer + n + k) words) (sym there.1) in (
           child.tree,
-          subst (λ l. BeginsWith l child.tree) words-there child.begins,
+          subst (λ l. BeginsWith l child.tree) words_there child.begins,
           to_child t h e
               ∙ ap (λ o. spot_nth table o image outer (outer + n) (outer + n + 1 + length_before i f.children)) child.is
               ∙ ap (λ k. spot_of table child.tree image k k) place,

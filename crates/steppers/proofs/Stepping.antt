@@ -23,9 +23,9 @@ module _ (table : Table) (t : Tree) (image : ℕ) where
       ap (λ b. cond b ended (move_of t (step_of table t image))) over ∙ ap (move_of t) e
 
   -- and of one that has
-  pub rule-ended : table.over (seen t) ≡ true → rule_of table t image ≡ ended
+  pub rule_ended : table.over (seen t) ≡ true → rule_of table t image ≡ ended
   unfolding rule_of
-  rule-ended over = ap (λ b. cond b ended (move_of t (step_of table t image))) over
+  rule_ended over = ap (λ b. cond b ended (move_of t (step_of table t image))) over
 
 module _ (table : Table) (sound : Sound table) (t : Tree) (image : ℕ) (formed : WellFormed t) where
   abbrev spot : Spot
@@ -39,8 +39,8 @@ module _ (table : Table) (sound : Sound table) (t : Tree) (image : ℕ) (formed 
   whole_shown = tree_shown table sound image (written t) t [] [] [] 0 0 formed refl refl (sym (append-nil (written t)))
 
   module _ (over : table.over (seen t) ≡ false) where
-    pub rule-waits : spot.action ≡ action.Wait → rule_of table t image ≡ moved 0 t
-    rule-waits e = by_change (step_of table t image) refl whole_shown
+    pub rule_waits : spot.action ≡ action.Wait → rule_of table t image ≡ moved 0 t
+    rule_waits e = by_change (step_of table t image) refl whole_shown
       where
         by_change : (c : Change Tree) → step_of table t image ≡ c → Shown table sound image (written t) spot out out c → rule_of table t image ≡ moved 0 t
         by_change (replaced effect n) is p = let f = p.acts in apart (cc)
@@ -48,8 +48,8 @@ module _ (table : Table) (sound : Sound table) (t : Tree) (image : ℕ) (formed 
         by_change waits is p = goes_on_lem table t image waits over is
         by_change sticks is p = apart (cc)
 
-    pub rule-sticks : spot.action ≡ action.Stuck → rule_of table t image ≡ stuck
-    rule-sticks e = by_change (step_of table t image) refl whole_shown
+    pub rule_sticks : spot.action ≡ action.Stuck → rule_of table t image ≡ stuck
+    rule_sticks e = by_change (step_of table t image) refl whole_shown
       where
         by_change : (c : Change Tree) → step_of table t image ≡ c → Shown table sound image (written t) spot out out c → rule_of table t image ≡ stuck
         by_change (replaced effect n) is p = let f = p.acts in apart (cc)

@@ -11,7 +11,7 @@ use Rattle.steppers.specs.Table.{Table, action_at}
 use Rattle.steppers.specs.Steps.{Change, replaced, within, waits, sticks, around, in_form, child_before, children_behind, step_of, child_step, move_of, rule_of}
 use Rattle.steppers.specs.Marked.{Mark, body_mark, head_mark, inside, step_inside}
 use Rattle.steppers.specs.Marking.{given, form-given}
-use Rattle.steppers.proofs.Stepping.{goes_on_lem, rule-ended}
+use Rattle.steppers.proofs.Stepping.{goes_on_lem, rule_ended}
 
 -- marks are looked through
 seen-inside : (ms : List Mark) (t : Tree) → seen (inside ms t) ≡ seen t
@@ -21,18 +21,18 @@ seen-inside (body_mark k ∷ ms) t = seen-inside ms t
 seen-inside (head_mark k r ds ∷ ms) t = seen-inside ms t
 
 -- without marks nothing changes
-around-none : (c : Change Tree) → c ≡ around (λ t. t) c
-around-none (replaced effect t) = refl
-around-none (within effect t) = refl
-around-none waits = refl
-around-none sticks = refl
+around_none : (c : Change Tree) → c ≡ around (λ t. t) c
+around_none (replaced effect t) = refl
+around_none (within effect t) = refl
+around_none waits = refl
+around_none sticks = refl
 
 -- a mark around a mark
-around-both : (outer inner : Tree → Tree) (c : Change Tree) → around outer (around inner c) ≡ around (λ t. outer (inner t)) c
-around-both outer inner (replaced effect t) = refl
-around-both outer inner (within effect t) = refl
-around-both outer inner waits = refl
-around-both outer inner sticks = refl
+around_both : (outer inner : Tree → Tree) (c : Change Tree) → around outer (around inner c) ≡ around (λ t. outer (inner t)) c
+around_both outer inner (replaced effect t) = refl
+around_both outer inner (within effect t) = refl
+around_both outer inner waits = refl
+around_both outer inner sticks = refl
 
 -- what a child's change makes of all children, where put puts the child among the others
 abbrev placed : (Tree → Trees) → Change Tree → Change Trees
@@ -64,47 +64,47 @@ placed_move ms l put a sticks = refl
 
 module _ (table : Table) (image : ℕ) where
   -- the marks go with a replaced node, and stay else
-  step-inside : (ms : List Mark) (t : Tree) → step_of table (inside ms t) image ≡ around (inside ms) (step_of table t image)
+  step_inside_lem : (ms : List Mark) (t : Tree) → step_of table (inside ms t) image ≡ around (inside ms) (step_of table t image)
   unfolding step_of inside
-  step-inside [] t = around-none (step_of table t image)
-  step-inside (body_mark k ∷ ms) t =
-      ap (around (body k)) (step-inside ms t) ∙ around-both (body k) (inside ms) (step_of table t image)
-  step-inside (head_mark k r ds ∷ ms) t =
-      ap (around (head k r ds)) (step-inside ms t) ∙ around-both (head k r ds) (inside ms) (step_of table t image)
+  step_inside_lem [] t = around_none (step_of table t image)
+  step_inside_lem (body_mark k ∷ ms) t =
+      ap (around (body k)) (step_inside_lem ms t) ∙ around_both (body k) (inside ms) (step_of table t image)
+  step_inside_lem (head_mark k r ds ∷ ms) t =
+      ap (around (head k r ds)) (step_inside_lem ms t) ∙ around_both (head k r ds) (inside ms) (step_of table t image)
 
   -- a number has no step
-  number-sticks : (t : Tree) (v : ℕ) → seen t ≡ Number v → step_of table t image ≡ sticks
+  number_sticks : (t : Tree) (v : ℕ) → seen t ≡ Number v → step_of table t image ≡ sticks
   unfolding step_of seen
-  number-sticks (atom n) v e = refl
-  number-sticks (variable n) v e = refl
-  number-sticks (body k t) v e = ap (around (body k)) (number-sticks t v e)
-  number-sticks (head k r ds t) v e = ap (around (head k r ds)) (number-sticks t v e)
-  number-sticks (form l ts) v e = apart (cc)
+  number_sticks (atom n) v e = refl
+  number_sticks (variable n) v e = refl
+  number_sticks (body k t) v e = ap (around (body k)) (number_sticks t v e)
+  number_sticks (head k r ds t) v e = ap (around (head k r ds)) (number_sticks t v e)
+  number_sticks (form l ts) v e = apart (cc)
 
   -- so a whole term that is a number, and has not ended, is stuck
-  pub rule-number : (t : Tree) (v : ℕ) → table.over (Number v) ≡ false → seen t ≡ Number v → rule_of table t image ≡ stuck
-  rule-number t v over e =
-      goes_on_lem table t image sticks (ap table.over e ∙ over) (number-sticks t v e)
+  pub rule_number : (t : Tree) (v : ℕ) → table.over (Number v) ≡ false → seen t ≡ Number v → rule_of table t image ≡ stuck
+  rule_number t v over e =
+      goes_on_lem table t image sticks (ap table.over e ∙ over) (number_sticks t v e)
 
   module _ (ms : List Mark) (l : ℕ) where
     -- a whole term that has ended, by its form
     pub form_ends : (ts : Trees) → table.over (Form l) ≡ true → rule_of table (inside ms (form l ts)) image ≡ ended
     unfolding seen
     form_ends ts over =
-        rule-ended table (inside ms (form l ts)) image (ap table.over (seen-inside ms (form l ts)) ∙ over)
+        rule_ended table (inside ms (form l ts)) image (ap table.over (seen-inside ms (form l ts)) ∙ over)
 
     module _ (over : table.over (Form l) ≡ false) where
       -- a form inside marks, by what is done there
-      pub form-acts : {a : Action} (ts : Trees) → action_at table l ts image ≡ a → rule_of table (inside ms (form l ts)) image ≡ move_of (inside ms (form l ts)) (around (inside ms) (given l ts (λ i. child_step table ts i image) a))
+      pub form_acts : {a : Action} (ts : Trees) → action_at table l ts image ≡ a → rule_of table (inside ms (form l ts)) image ≡ move_of (inside ms (form l ts)) (around (inside ms) (given l ts (λ i. child_step table ts i image) a))
       unfolding seen
-      form-acts ts e =
+      form_acts ts e =
           goes_on_lem table (inside ms (form l ts)) image _ (ap table.over (seen-inside ms (form l ts)) ∙ over)
-          (step-inside ms (form l ts) ∙ ap (around (inside ms)) (form-given table l ts image ∙ ap (given l ts (λ i. child_step table ts i image)) e))
+          (step_inside_lem ms (form l ts) ∙ ap (around (inside ms)) (form-given table l ts image ∙ ap (given l ts (λ i. child_step table ts i image)) e))
 
       -- a form that steps its child i has the child's move, seen from the form
       child_steps : (put : Tree → Trees) (a : Tree) (i : ℕ) → child_step table (put a) i image ≡ placed put (step_of table a image) → table.over (seen a) ≡ false → action_at table l (put a) image ≡ Child i → rule_of table (inside ms (form l (put a))) image ≡ step_inside (λ t. inside ms (form l (put t))) (rule_of table a image)
       child_steps put a i child goes e =
-          form-acts (put a) e
+          form_acts (put a) e
           ∙ ap (λ c. move_of (inside ms (form l (put a))) (around (inside ms) (in_form l c))) child
           ∙ placed_move ms l put a (step_of table a image)
           ∙ ap (step_inside (λ t. inside ms (form l (put t)))) (sym (goes_on_lem table a image (step_of table a image) goes refl))

@@ -36,9 +36,9 @@ seen_all-length none = refl
 seen_all-length (more t ts) = ap suc (seen_all-length ts)
 
 -- places of forms that are lacking
-none-behind : (n : ℕ) (o : Option ℕ) → behind n o ≡ None → o ≡ None
-none-behind n None e = refl
-none-behind n (Some p) e = apart (cc)
+none_behind : (n : ℕ) (o : Option ℕ) → behind n o ≡ None → o ≡ None
+none_behind n None e = refl
+none_behind n (Some p) e = apart (cc)
 
 none_either : (o p : Option ℕ) → or_else o p ≡ None → (o ≡ None) × (p ≡ None)
 none_either None p e = (refl, e)
@@ -52,21 +52,21 @@ module _ (has : ℕ → ℕ → Bool) where
   abbrev HadAll : Trees → Type 0
   HadAll ts = lacking_all has ts ≡ None
 
-  body-had : (k : ℕ) (t : Tree) → Had (body k t) → Had t
+  body_had : (k : ℕ) (t : Tree) → Had (body k t) → Had t
   unfolding lacking
-  body-had k t e = none-behind 1 (lacking has t) e
+  body_had k t e = none_behind 1 (lacking has t) e
 
-  had-body : (k : ℕ) (t : Tree) → Had t → Had (body k t)
+  had_body : (k : ℕ) (t : Tree) → Had t → Had (body k t)
   unfolding lacking
-  had-body k t e = ap (behind 1) e
+  had_body k t e = ap (behind 1) e
 
-  head-had : (k r : ℕ) (ds : Trees) (t : Tree) → Had (head k r ds t) → Had t
+  head_had : (k r : ℕ) (ds : Trees) (t : Tree) → Had (head k r ds t) → Had t
   unfolding lacking
-  head-had k r ds t e = none-behind (1 + length (written_all ds)) (lacking has t) e
+  head_had k r ds t e = none_behind (1 + length (written_all ds)) (lacking has t) e
 
-  had-head : (k r : ℕ) (ds : Trees) (t : Tree) → Had t → Had (head k r ds t)
+  had_head : (k r : ℕ) (ds : Trees) (t : Tree) → Had t → Had (head k r ds t)
   unfolding lacking
-  had-head k r ds t e = ap (behind (1 + length (written_all ds))) e
+  had_head k r ds t e = ap (behind (1 + length (written_all ds))) e
 
   -- at a form, by whether the stepper has it
   abbrev lacks : Bool → Option ℕ → Option ℕ
@@ -81,45 +81,45 @@ module _ (has : ℕ → ℕ → Bool) where
       same true = refl
       same false = refl
 
-  had-form : (l : ℕ) (ts : Trees) → has l (count ts) ≡ true → HadAll ts → Had (form l ts)
-  had-form l ts h e = lacking-form l ts ∙ ap (λ b. lacks b (lacking_all has ts)) h ∙ ap (behind 1) e
+  had_form : (l : ℕ) (ts : Trees) → has l (count ts) ≡ true → HadAll ts → Had (form l ts)
+  had_form l ts h e = lacking-form l ts ∙ ap (λ b. lacks b (lacking_all has ts)) h ∙ ap (behind 1) e
 
-  form-had : (l : ℕ) (ts : Trees) → Had (form l ts) → (has l (count ts) ≡ true) × HadAll ts
-  form-had l ts e = by_test (has l (count ts)) refl
+  form_had : (l : ℕ) (ts : Trees) → Had (form l ts) → (has l (count ts) ≡ true) × HadAll ts
+  form_had l ts e = by_test (has l (count ts)) refl
     where
-      lacks-none : (b : Bool) → has l (count ts) ≡ b → lacks b (lacking_all has ts) ≡ None
-      lacks-none b h = ap (λ c. lacks c (lacking_all has ts)) (sym h) ∙ sym (lacking-form l ts) ∙ e
+      lacks_none : (b : Bool) → has l (count ts) ≡ b → lacks b (lacking_all has ts) ≡ None
+      lacks_none b h = ap (λ c. lacks c (lacking_all has ts)) (sym h) ∙ sym (lacking-form l ts) ∙ e
 
       by_test : (b : Bool) → has l (count ts) ≡ b → (has l (count ts) ≡ true) × HadAll ts
-      by_test true h = (h, none-behind 1 (lacking_all has ts) (lacks-none true h))
-      by_test false h = let z = lacks-none false h in apart (cc)
+      by_test true h = (h, none_behind 1 (lacking_all has ts) (lacks_none true h))
+      by_test false h = let z = lacks_none false h in apart (cc)
 
-  more-had : (t : Tree) (ts : Trees) → HadAll (more t ts) → Had t × HadAll ts
+  more_had : (t : Tree) (ts : Trees) → HadAll (more t ts) → Had t × HadAll ts
   unfolding lacking_all
-  more-had t ts e =
+  more_had t ts e =
       let both = none_either (lacking has t) (behind (length (written t)) (lacking_all has ts)) e in
-      (both.0, none-behind (length (written t)) (lacking_all has ts) both.1)
+      (both.0, none_behind (length (written t)) (lacking_all has ts) both.1)
 
-  had-more : (t : Tree) (ts : Trees) → Had t → HadAll ts → HadAll (more t ts)
+  had_more : (t : Tree) (ts : Trees) → Had t → HadAll ts → HadAll (more t ts)
   unfolding lacking_all
-  had-more t ts e f = rw e (ap (behind (length (written t))) f)
+  had_more t ts e f = rw e (ap (behind (length (written t))) f)
 
-  had-none : HadAll none
+  had_none : HadAll none
   unfolding lacking_all
-  had-none = refl
+  had_none = refl
 
-  had-atom : (v : ℕ) → Had (atom v)
+  had_atom : (v : ℕ) → Had (atom v)
   unfolding lacking
-  had-atom v = refl
+  had_atom v = refl
 
   -- a child that is there is well formed, and of the stepper's forms if all are
-  pick-kept : (i : ℕ) (ts : Trees) → WellMadeAll ts false → i < count ts → WellFormed (pick i ts) × (HadAll ts → Had (pick i ts))
+  pick_kept : (i : ℕ) (ts : Trees) → WellMadeAll ts false → i < count ts → WellFormed (pick i ts) × (HadAll ts → Had (pick i ts))
   unfolding pick nth count WellMadeAll
-  pick-kept i none h less = absurd (let z : ⊥ = omega arith in z)
-  pick-kept zero (more t ts) h less = (h.0, λ e. (more-had t ts e).0)
-  pick-kept (suc i) (more t ts) h less =
-      let rest = pick-kept i ts h.1 (omega arith) in
-      (rest.0, λ e. rest.1 (more-had t ts e).1)
+  pick_kept i none h less = absurd (let z : ⊥ = omega arith in z)
+  pick_kept zero (more t ts) h less = (h.0, λ e. (more_had t ts e).0)
+  pick_kept (suc i) (more t ts) h less =
+      let rest = pick_kept i ts h.1 (omega arith) in
+      (rest.0, λ e. rest.1 (more_had t ts e).1)
 
 module _ (table : Table) (sound : Sound table) where
   -- what is well formed from what was, and of the stepper's forms if that was
@@ -138,7 +138,7 @@ module _ (table : Table) (sound : Sound table) where
   leaf_kept : (l : ℕ) → table.has l 0 ≡ true → WellFormed (form l none) × Had table.has (form l none)
   unfolding WellMade WellMadeAll count
   leaf_kept l h =
-      (((sound.forms l 0 h).0, omega arith, tt), had-form table.has l none h (had-none table.has))
+      (((sound.forms l 0 h).0, omega arith, tt), had_form table.has l none h (had_none table.has))
 
   pair_kept : (l : ℕ) (t u : Tree) → table.has l 2 ≡ true → WellFormed t → WellFormed u → WellFormed (form l (more t (more u none)))
   unfolding WellMade WellMadeAll count
@@ -148,21 +148,21 @@ module _ (table : Table) (sound : Sound table) where
   unfolding count
   pair_had l t u h e f =
       let has = table.has in
-      had-form has l (more t (more u none)) h (had-more has t (more u none) e (had-more has u none f (had-none has)))
+      had_form has l (more t (more u none)) h (had_more has t (more u none) e (had_more has u none f (had_none has)))
 
-  number-kept : (v : ℕ) → v < 16777216 → WellFormed (atom v)
+  number_kept : (v : ℕ) → v < 16777216 → WellFormed (atom v)
   unfolding WellMade
-  number-kept v h = h
+  number_kept v h = h
 
-  fill-kept : (by : Made) (ts : Trees) → MadeSoundly table.has (count ts) by → WellMadeAll ts false → WellFormed (fill by ts) × (HadAll table.has ts → Had table.has (fill by ts))
+  fill_kept : (by : Made) (ts : Trees) → MadeSoundly table.has (count ts) by → WellMadeAll ts false → WellFormed (fill by ts) × (HadAll table.has ts → Had table.has (fill by ts))
   unfolding fill
-  fill-kept (made.Number v) ts s h = (number-kept v s, λ e. had-atom table.has v)
-  fill-kept (made.Leaf l) ts s h = let leaf = leaf_kept l s in (leaf.0, λ e. leaf.1)
-  fill-kept (made.Child i) ts s h = pick-kept table.has i ts h s
-  fill-kept (made.Round first again n i) ts s h =
-      let body = pick-kept table.has i ts h s.3 in
+  fill_kept (made.Number v) ts s h = (number_kept v s, λ e. had_atom table.has v)
+  fill_kept (made.Leaf l) ts s h = let leaf = leaf_kept l s in (leaf.0, λ e. leaf.1)
+  fill_kept (made.Child i) ts s h = pick_kept table.has i ts h s
+  fill_kept (made.Round first again n i) ts s h =
+      let body = pick_kept table.has i ts h s.3 in
       let t = pick i ts in
-      (pair_kept first t (form again (more (atom n) (more t none))) s.0 body.0 (pair_kept again (atom n) t s.1 (number-kept n s.2) body.0), λ e. pair_had first t (form again (more (atom n) (more t none))) s.0 (body.1 e) (pair_had again (atom n) t s.1 (had-atom table.has n) (body.1 e)))
+      (pair_kept first t (form again (more (atom n) (more t none))) s.0 body.0 (pair_kept again (atom n) t s.1 (number_kept n s.2) body.0), λ e. pair_had first t (form again (more (atom n) (more t none))) s.0 (body.1 e) (pair_had again (atom n) t s.1 (had_atom table.has n) (body.1 e)))
 
   -- the action at a form is sound
   pub action_sound : (l : ℕ) (ts : Trees) (image : ℕ) → WellMadeAll ts false → ActsSoundly table.has (count ts) (action_at table l ts image)
@@ -175,27 +175,27 @@ module _ (table : Table) (sound : Sound table) where
           let acts = sound.acts_soundly l (seen_all ts) image (rw all b) (seen_all_range ts h) in
           rw all at acts
 
-  around-kept : (mark : Tree → Tree) (t : Tree) → ((u : Tree) → WellFormed u → WellFormed (mark u)) → (Had table.has (mark t) → Had table.has t) → ((u : Tree) → Had table.has u → Had table.has (mark u)) → (c : Change Tree) → Changed (Kept t) c → Changed (Kept (mark t)) (around mark c)
-  around-kept mark t formed less wider (replaced effect u) h = (h.0, λ e. h.1 (less e))
-  around-kept mark t formed less wider (within effect u) h = (formed u h.0, λ e. wider u (h.1 (less e)))
-  around-kept mark t formed less wider waits h = tt
-  around-kept mark t formed less wider sticks h = tt
+  around_kept : (mark : Tree → Tree) (t : Tree) → ((u : Tree) → WellFormed u → WellFormed (mark u)) → (Had table.has (mark t) → Had table.has t) → ((u : Tree) → Had table.has u → Had table.has (mark u)) → (c : Change Tree) → Changed (Kept t) c → Changed (Kept (mark t)) (around mark c)
+  around_kept mark t formed less wider (replaced effect u) h = (h.0, λ e. h.1 (less e))
+  around_kept mark t formed less wider (within effect u) h = (formed u h.0, λ e. wider u (h.1 (less e)))
+  around_kept mark t formed less wider waits h = tt
+  around_kept mark t formed less wider sticks h = tt
 
-  form-kept : (l : ℕ) (ts us : Trees) → WellFormed (form l ts) → KeptAll ts us → Kept (form l ts) (form l us)
+  form_kept : (l : ℕ) (ts us : Trees) → WellFormed (form l ts) → KeptAll ts us → Kept (form l ts) (form l us)
   unfolding WellMade
-  form-kept l ts us h k =
-      ((h.0, rw k.1 h.1, k.0), λ e. let had = form-had table.has l ts e in had-form table.has l us (rw k.1 had.0) (k.2 had.1))
+  form_kept l ts us h k =
+      ((h.0, rw k.1 h.1, k.0), λ e. let had = form_had table.has l ts e in had_form table.has l us (rw k.1 had.0) (k.2 had.1))
 
-  in_form-kept : (l : ℕ) (ts : Trees) → WellFormed (form l ts) → (c : Change Trees) → Changed (KeptAll ts) c → Changed (Kept (form l ts)) (in_form l c)
-  in_form-kept l ts formed (replaced effect us) h = form-kept l ts us formed h
-  in_form-kept l ts formed (within effect us) h = form-kept l ts us formed h
-  in_form-kept l ts formed waits h = tt
-  in_form-kept l ts formed sticks h = tt
+  in_form_kept : (l : ℕ) (ts : Trees) → WellFormed (form l ts) → (c : Change Trees) → Changed (KeptAll ts) c → Changed (Kept (form l ts)) (in_form l c)
+  in_form_kept l ts formed (replaced effect us) h = form_kept l ts us formed h
+  in_form_kept l ts formed (within effect us) h = form_kept l ts us formed h
+  in_form_kept l ts formed waits h = tt
+  in_form_kept l ts formed sticks h = tt
 
   one_kept : (t u : Tree) (ts : Trees) → WellMadeAll ts false → Kept t u → KeptAll (more t ts) (more u ts)
   unfolding WellMadeAll count
   one_kept t u ts formed h =
-      ((h.0, formed), refl, λ e. let both = more-had table.has t ts e in had-more table.has u ts (h.1 both.0) both.1)
+      ((h.0, formed), refl, λ e. let both = more_had table.has t ts e in had_more table.has u ts (h.1 both.0) both.1)
 
   before_kept : (t : Tree) (ts : Trees) → WellMadeAll ts false → (c : Change Tree) → Changed (Kept t) c → Changed (KeptAll (more t ts)) (child_before ts c)
   before_kept t ts formed (replaced effect u) h = one_kept t u ts formed h
@@ -206,25 +206,25 @@ module _ (table : Table) (sound : Sound table) where
   others_kept : (t : Tree) (ts us : Trees) → WellFormed t → KeptAll ts us → KeptAll (more t ts) (more t us)
   unfolding WellMadeAll count
   others_kept t ts us formed h =
-      ((formed, h.0), ap suc h.1, λ e. let both = more-had table.has t ts e in had-more table.has t us both.0 (h.2 both.1))
+      ((formed, h.0), ap suc h.1, λ e. let both = more_had table.has t ts e in had_more table.has t us both.0 (h.2 both.1))
 
-  behind-kept : (t : Tree) (ts : Trees) → WellFormed t → (c : Change Trees) → Changed (KeptAll ts) c → Changed (KeptAll (more t ts)) (children_behind t c)
-  behind-kept t ts formed (replaced effect us) h = others_kept t ts us formed h
-  behind-kept t ts formed (within effect us) h = others_kept t ts us formed h
-  behind-kept t ts formed waits h = tt
-  behind-kept t ts formed sticks h = tt
+  behind_kept : (t : Tree) (ts : Trees) → WellFormed t → (c : Change Trees) → Changed (KeptAll ts) c → Changed (KeptAll (more t ts)) (children_behind t c)
+  behind_kept t ts formed (replaced effect us) h = others_kept t ts us formed h
+  behind_kept t ts formed (within effect us) h = others_kept t ts us formed h
+  behind_kept t ts formed waits h = tt
+  behind_kept t ts formed sticks h = tt
 
-  replaced-kept : (l : ℕ) (ts : Trees) (by : Made) → WellFormed (form l ts) → MadeSoundly table.has (count ts) by → Kept (form l ts) (fill by ts)
+  replaced_kept : (l : ℕ) (ts : Trees) (by : Made) → WellFormed (form l ts) → MadeSoundly table.has (count ts) by → Kept (form l ts) (fill by ts)
   unfolding WellMade
-  replaced-kept l ts by formed sound-by =
-      let k = fill-kept by ts sound-by formed.2 in
-      (k.0, λ e. k.1 (form-had table.has l ts e).1)
+  replaced_kept l ts by formed sound_by =
+      let k = fill_kept by ts sound_by formed.2 in
+      (k.0, λ e. k.1 (form_had table.has l ts e).1)
 
-  given-kept : (l : ℕ) (ts : Trees) (child : ℕ → Change Trees) → WellFormed (form l ts) → ((i : ℕ) → Changed (KeptAll ts) (child i)) → (a : Action) → ActsSoundly table.has (count ts) a → Changed (Kept (form l ts)) (given l ts child a)
-  given-kept l ts child formed h (action.Child i) s = in_form-kept l ts formed (child i) (h i)
-  given-kept l ts child formed h (action.Replace effect by) s = replaced-kept l ts by formed s
-  given-kept l ts child formed h action.Wait s = tt
-  given-kept l ts child formed h action.Stuck s = tt
+  given_kept : (l : ℕ) (ts : Trees) (child : ℕ → Change Trees) → WellFormed (form l ts) → ((i : ℕ) → Changed (KeptAll ts) (child i)) → (a : Action) → ActsSoundly table.has (count ts) a → Changed (Kept (form l ts)) (given l ts child a)
+  given_kept l ts child formed h (action.Child i) s = in_form_kept l ts formed (child i) (h i)
+  given_kept l ts child formed h (action.Replace effect by) s = replaced_kept l ts by formed s
+  given_kept l ts child formed h action.Wait s = tt
+  given_kept l ts child formed h action.Stuck s = tt
 
   mutual
     unfolding step_of child_step WellMade WellMadeAll
@@ -233,16 +233,16 @@ module _ (table : Table) (sound : Sound table) where
     step_kept (atom v) image h = tt
     step_kept (variable n) image h = tt
     step_kept (body k t) image h =
-        around-kept (body k) t (λ u f. (h.0, f)) (body-had table.has k t) (had-body table.has k) (step_of table t image) (step_kept t image h.1)
+        around_kept (body k) t (λ u f. (h.0, f)) (body_had table.has k t) (had_body table.has k) (step_of table t image) (step_kept t image h.1)
     step_kept (head k r ds t) image h =
-        around-kept (head k r ds) t (λ u f. (h.0, h.1, f)) (head-had table.has k r ds t) (had-head table.has k r ds) (step_of table t image) (step_kept t image h.2)
+        around_kept (head k r ds) t (λ u f. (h.0, h.1, f)) (head_had table.has k r ds t) (had_head table.has k r ds) (step_of table t image) (step_kept t image h.2)
     step_kept (form l ts) image h =
-        subst (Changed (Kept (form l ts))) (sym (form-given table l ts image)) (given-kept l ts (λ i. child_step table ts i image) h (λ i. child_kept ts i image h.2) (action_at table l ts image) (action_sound l ts image h.2))
+        subst (Changed (Kept (form l ts))) (sym (form-given table l ts image)) (given_kept l ts (λ i. child_step table ts i image) h (λ i. child_kept ts i image h.2) (action_at table l ts image) (action_sound l ts image h.2))
 
     pub child_kept : (ts : Trees) (i image : ℕ) → WellMadeAll ts false → Changed (KeptAll ts) (child_step table ts i image)
     child_kept none i image h = tt
     child_kept (more t ts) zero image h = before_kept t ts h.1 (step_of table t image) (step_kept t image h.0)
-    child_kept (more t ts) (suc i) image h = behind-kept t ts h.0 (child_step table ts i image) (child_kept ts i image h.1)
+    child_kept (more t ts) (suc i) image h = behind_kept t ts h.0 (child_step table ts i image) (child_kept ts i image h.1)
 
   move_kept : (t next : Tree) (effect : ℕ) (c : Change Tree) → WellFormed t → Changed (Kept t) c → move_of t c ≡ moved effect next → Kept t next
   move_kept t next effect (replaced e u) formed h same = let is : u ≡ next = cc in rw is at h

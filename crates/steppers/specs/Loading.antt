@@ -8,10 +8,10 @@ use Rattle.terms.specs.declared.front.Broken.{Broken}
 use Rattle.terms.specs.Trees.{Tree, written, WellFormed, bare, term_of}
 use Rattle.terms.specs.Fronts.{ending, wholly}
 use Rattle.terms.specs.Laws.{Whole}
-use Rattle.terms.proofs.Readings.{term-read}
+use Rattle.terms.proofs.Readings.{term_read}
 use Rattle.terms.proofs.Endings.{one_ends}
 use Rattle.terms.proofs.Verdicts.{whole_means, wholly_all}
-use Rattle.terms.proofs.Marks.{bare-same}
+use Rattle.terms.proofs.Marks.{bare_same}
 use Rattle.languages.specs.declared.refusal.Refusal.{Refusal}
 use Rattle.languages.specs.declared.refusal.Refusal.TheVariants.{TooLong, NoTerm, NoSuchForm}
 use Rattle.languages.specs.Meaning.{Expanded}
@@ -39,9 +39,9 @@ module _ (table : Table) where
   judged true (Err b) o = Err (NoTerm 0 b.place)
   judged true (Ok x) o = itself table.has o
 
-  pub expansion-judged : (words : List ℕ) → expansion_of table words ≡ judged (nat_le (length words) table.capacity) (wholly false words) (term_of words)
+  pub expansion_judged : (words : List ℕ) → expansion_of table words ≡ judged (nat_le (length words) table.capacity) (wholly false words) (term_of words)
   unfolding expansion_of
-  expansion-judged words = by_length (nat_le (length words) table.capacity)
+  expansion_judged words = by_length (nat_le (length words) table.capacity)
     where
       by_whole : (r : Result (Unit {0}) Broken) → elim r [ Err b ↦ Err (NoTerm 0 b.place) | Ok x ↦ itself table.has (term_of words) ] ≡ judged true r (term_of words)
       by_whole (Ok x) = refl
@@ -66,10 +66,10 @@ module _ (table : Table) where
   -- the words of a term within the capacity expand to it, unless a form is lacking
   pub expansion_of_lem : (t : Tree) → WellFormed t → length (written t) ≤ table.capacity → expansion_of table (written t) ≡ unless t (lacking table.has t)
   expansion_of_lem t formed few =
-      expansion-judged (written t)
+      expansion_judged (written t)
       ∙ ap (λ b. judged b (wholly false (written t)) (term_of (written t))) (le-leb (length (written t)) table.capacity few)
       ∙ ap (λ r. judged true r (term_of (written t))) (whole_term t formed)
-      ∙ ap (itself table.has) (term-read t false formed)
+      ∙ ap (itself table.has) (term_read t false formed)
       ∙ itself-unless t
 
   pub loads_term : (t : Tree) → WellFormed t → length (written t) ≤ table.capacity → lacking table.has t ≡ None → expansion_of table (written t) ≡ Ok (record { term = t; uses = 0 })
@@ -93,7 +93,7 @@ module _ (table : Table) where
   judged_means words e true (Ok x) few whole h =
       let found = term_whole words x whole in
       let t = found.0 in
-      let term : term_of words ≡ Some t = ap term_of (sym found.2) ∙ term-read t false found.1 in
+      let term : term_of words ≡ Some t = ap term_of (sym found.2) ∙ term_read t false found.1 in
       let is = unless_means t e (lacking table.has t) (sym (itself-unless t) ∙ ap (itself table.has) (sym term) ∙ h) in
       let same : e.term ≡ t = ap (λ x. x.term) is.1 in
       record {
@@ -106,13 +106,13 @@ module _ (table : Table) where
 
   pub loadable : (words : List ℕ) (e : Expanded) → expansion_of table words ≡ Ok e → Loadable words e
   loadable words e h =
-      judged_means words e (nat_le (length words) table.capacity) (wholly false words) refl refl (sym (expansion-judged words) ∙ h)
+      judged_means words e (nat_le (length words) table.capacity) (wholly false words) refl refl (sym (expansion_judged words) ∙ h)
 
   -- a term expands to itself alone
   pub expands_to : (u t : Tree) → WellFormed u → Expands (meaning_of table) u t → u ≡ t
   expands_to u t formed h =
       let l = loadable (written u) h.0 h.1 in
-      let same : Some u ≡ Some h.0.term = sym (term-read u false formed) ∙ ap term_of (sym l.spelled) ∙ term-read h.0.term false l.formed in
+      let same : Some u ≡ Some h.0.term = sym (term_read u false formed) ∙ ap term_of (sym l.spelled) ∙ term_read h.0.term false l.formed in
       let found = h.2 in
       cc
 
@@ -124,7 +124,7 @@ module _ (table : Table) where
     core_fits = λ t h. let l = loadable (written t) (record { term = t; uses = 0 }) h in (l.formed, l.few);
     next_loads = λ t next image effect h rule few. let l = loadable (written t) (record { term = t; uses = 0 }) h in let kept = next_kept table sound t next image effect l.formed rule in loads_term next kept.0 few (kept.1 l.had);
     marks_change_nothing = λ t image h. rule-bare table t image;
-    plain_is_held = λ u t formed unmarked h. ap bare (sym (expands_to u t formed h)) ∙ bare-same u unmarked;
+    plain_is_held = λ u t formed unmarked h. ap bare (sym (expands_to u t formed h)) ∙ bare_same u unmarked;
   }
 
 -- what a machine may hold: nothing, or the words of a term of at most 1,024
@@ -151,10 +151,10 @@ holdable_by (w ∷ ws) e few =
     and_from (is_ok (wholly false (w ∷ ws))) (nat_le (length (w ∷ ws)) 1024) (ap is_ok e) (le-leb (length (w ∷ ws)) 1024 few)
 
 -- the words of a term of at most 1,024 may be held
-pub term-holdable : (t : Tree) (words : List ℕ) → WellFormed t → written t ≡ words → length words ≤ 1024 → holdable words ≡ true
-term-holdable t words formed e few = holdable_by words (ap (wholly false) (sym e) ∙ whole_term t formed) few
+pub term_holdable : (t : Tree) (words : List ℕ) → WellFormed t → written t ≡ words → length words ≤ 1024 → holdable words ≡ true
+term_holdable t words formed e few = holdable_by words (ap (wholly false) (sym e) ∙ whole_term t formed) few
 
 -- nothing may be held
-pub holdable-none : (words : List ℕ) → words ≡ [] → holdable words ≡ true
+pub holdable_none : (words : List ℕ) → words ≡ [] → holdable words ≡ true
 unfolding holdable
-holdable-none words e = ap holdable e
+holdable_none words e = ap holdable e

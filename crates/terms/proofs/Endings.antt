@@ -4,13 +4,13 @@ use Rattle.terms.specs.declared.front.Broken.{Broken}
 use Rattle.terms.specs.Trees.{Tree, Trees, atom, variable, body, head, form, none, more, count, written, written_all, WellMade, WellMadeAll, children_of}
 use Rattle.terms.specs.Fronts.{later, ending}
 use Rattle.terms.proofs.Shapes.{word_of, wants_children, count-join}
-use Rattle.terms.proofs.Turns.{later-none, later-later, ending-stands}
+use Rattle.terms.proofs.Turns.{later_none, later-later, ending_stands}
 
 -- the first word of a tree in front of words that end its children
 past_word : (t : Tree) (v : Bool) (n k m : ℕ) (ws : List ℕ) (r : Result ℕ Broken) → WellMade t v → n + count (children_of t) ≡ k → ending v k ws ≡ later m r → ending v (suc n) (word_of t ∷ ws) ≡ later (suc m) r
 past_word t v n k m ws r h same e =
     let more : 1 + m ≡ suc m = omega arith in
-    ending-stands v n (word_of t) (count (children_of t)) ws (wants_children t v h)
+    ending_stands v n (word_of t) (count (children_of t)) ws (wants_children t v h)
     ∙ ap (λ x. later 1 (ending v x ws)) same
     ∙ ap (later 1) e
     ∙ later-later 1 m r
@@ -29,8 +29,8 @@ mutual
   unfolding written written_all WellMade WellMadeAll count children_of
 
   pub tree_ends : (t : Tree) (v : Bool) (n : ℕ) (ws : List ℕ) → WellMade t v → ending v (suc n) (written t ++ ws) ≡ later (length (written t)) (ending v n ws)
-  tree_ends (atom a) v n ws h = past_word (atom a) v n n 0 ws (ending v n ws) h (omega arith) (sym (later-none (ending v n ws)))
-  tree_ends (variable i) v n ws h = past_word (variable i) v n n 0 ws (ending v n ws) h (omega arith) (sym (later-none (ending v n ws)))
+  tree_ends (atom a) v n ws h = past_word (atom a) v n n 0 ws (ending v n ws) h (omega arith) (sym (later_none (ending v n ws)))
+  tree_ends (variable i) v n ws h = past_word (variable i) v n n 0 ws (ending v n ws) h (omega arith) (sym (later_none (ending v n ws)))
   tree_ends (body k t) v n ws h = past_word (body k t) v n (suc n) (length (written t)) (written t ++ ws) (ending v n ws) h (omega arith) (tree_ends t v n ws h.1)
   tree_ends (head k r ds t) v n ws h =
       let both = past_both v (count ds + suc n) (suc n) (written_all ds) (written t) ws (ending v n ws) (trees_end ds v (suc n) (written t ++ ws) h.1) (tree_ends t v n ws h.2) in
@@ -39,7 +39,7 @@ mutual
   tree_ends (form l ts) v n ws h = past_word (form l ts) v n (count ts + n) (length (written_all ts)) (written_all ts ++ ws) (ending v n ws) h (omega arith) (trees_end ts v n ws h.2)
 
   pub trees_end : (ts : Trees) (v : Bool) (n : ℕ) (ws : List ℕ) → WellMadeAll ts v → ending v (count ts + n) (written_all ts ++ ws) ≡ later (length (written_all ts)) (ending v n ws)
-  trees_end none v n ws h = ap (λ k. ending v k ws) (zero-add n) ∙ sym (later-none (ending v n ws))
+  trees_end none v n ws h = ap (λ k. ending v k ws) (zero-add n) ∙ sym (later_none (ending v n ws))
   trees_end (more t ts) v n ws h =
       let all : suc (count ts) + n ≡ suc (count ts + n) = omega arith in
       past_both v (suc (count ts) + n) (count ts + n) (written t) (written_all ts) ws (ending v n ws) (ap (λ k. ending v k (written t ++ (written_all ts ++ ws))) all ∙ tree_ends t v (count ts + n) (written_all ts ++ ws) h.0) (trees_end ts v n ws h.1)

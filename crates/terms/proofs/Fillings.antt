@@ -9,7 +9,7 @@ use Rattle.terms.specs.Trees.{Trees, atom, none, more, count, written_all, WellM
 use Rattle.terms.specs.Fronts.{wants, later, ending}
 use Rattle.terms.proofs.Nodes.{Stands, stands}
 use Rattle.terms.proofs.Puts.{Put, put_made}
-use Rattle.terms.proofs.Turns.{turn, ending-more}
+use Rattle.terms.proofs.Turns.{turn, ending_more}
 
 -- where an answer stands: the end, or the place that is broken
 abbrev pub place_of : Result ℕ Broken → ℕ
@@ -61,10 +61,10 @@ wants_arity v (Body k) a e = cc
 wants_arity v (Head k r d) a e = cc
 wants_arity v (Form l n) a e = cc
 
-later-place : (r : Result ℕ Broken) → place_of (later 1 r) ≡ suc (place_of r)
+later_place : (r : Result ℕ Broken) → place_of (later 1 r) ≡ suc (place_of r)
 unfolding later
-later-place (Ok e) = one-add e
-later-place (Err b) = one-add b.place
+later_place (Ok e) = one-add e
+later_place (Err b) = one-add b.place
 
 later_ok : (r : Result ℕ Broken) → is_ok (later 1 r) ≡ is_ok r
 unfolding later
@@ -74,7 +74,7 @@ later_ok (Err b) = refl
 -- a word more in front, where its node took its children
 filled_front : (v : Bool) (n m w : ℕ) (ws : List ℕ) (node : Node) (r : Result ℕ Broken) (f : Filled v m ws r) → m ≡ n + arity_of node → (ts : Trees) → Put w v node f.trees (Some ts) → Filled v (suc n) (w ∷ ws) (later 1 r)
 filled_front v n m w ws node r f same ts p =
-    let place = later-place r in
+    let place = later_place r in
     record {
       trees = ts;
       rest = f.rest;
@@ -118,7 +118,7 @@ filled [] v zero = filled_none v []
 filled [] v (suc n) = filled_broken v (suc n) []
 filled (w ∷ ws) v zero = filled_none v (w ∷ ws)
 filled (w ∷ ws) v (suc n) =
-    subst (Filled v (suc n) (w ∷ ws)) (sym (ending-more v n w ws)) (filled_turn v n w ws (node_of w) (stands w) (filled ws v))
+    subst (Filled v (suc n) (w ∷ ws)) (sym (ending_more v n w ws)) (filled_turn v n w ws (node_of w) (stands w) (filled ws v))
 
 -- trees that end in a run end within it
 pub ends_within : (v : Bool) (k : ℕ) (ws : List ℕ) (end : ℕ) → ending v k ws ≡ Ok end → end ≤ length ws

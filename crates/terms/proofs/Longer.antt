@@ -3,7 +3,7 @@ use Rattle.std.proofs.Common.{◌≡◌, ℕ, zero, suc, ◌+◌, ◌<◌, ◌�
 use Rattle.terms.specs.declared.front.Broken.{Broken}
 use Rattle.terms.specs.Words.{node_of}
 use Rattle.terms.specs.Fronts.{wants, later, ending}
-use Rattle.terms.proofs.Turns.{turn, ending-more}
+use Rattle.terms.proofs.Turns.{turn, ending_more}
 
 -- the first n words hold all that the answer rests on
 abbrev pub Reached : Result ℕ Broken → ℕ → Type 0
@@ -34,9 +34,9 @@ longer [] v zero n rest l h = refl
 longer [] v (suc k) n rest l h = absurd (omega arith)
 longer (w ∷ ws) v zero n rest l h = refl
 longer (w ∷ ws) v (suc k) zero rest l h =
-    absurd (turn_not_at_none v k ws (wants v (node_of w)) (subst (λ r. Reached r 0) (ending-more v k w ws) h))
+    absurd (turn_not_at_none v k ws (wants v (node_of w)) (subst (λ r. Reached r 0) (ending_more v k w ws) h))
 longer (w ∷ ws) v (suc k) (suc n) rest l h =
     let less : n ≤ length ws = omega arith in
-    ending-more v k w (take n ws ++ rest)
-    ∙ longer_turn v k n ws (take n ws ++ rest) (wants v (node_of w)) (subst (λ r. Reached r (suc n)) (ending-more v k w ws) h) (λ j. longer ws v j n rest less)
-    ∙ sym (ending-more v k w ws)
+    ending_more v k w (take n ws ++ rest)
+    ∙ longer_turn v k n ws (take n ws ++ rest) (wants v (node_of w)) (subst (λ r. Reached r (suc n)) (ending_more v k w ws) h) (λ j. longer ws v j n rest less)
+    ∙ sym (ending_more v k w ws)

@@ -38,13 +38,13 @@ mutual
 mutual
   unfolding bare bare_all Unmarked UnmarkedAll
 
-  pub bare-same : (t : Tree) → Unmarked t → bare t ≡ t
-  bare-same (atom a) h = refl
-  bare-same (variable n) h = refl
-  bare-same (body k t) h = absurd h
-  bare-same (head k r ds t) h = absurd h
-  bare-same (form l ts) h = ap (form l) (bare_all_same ts h)
+  pub bare_same : (t : Tree) → Unmarked t → bare t ≡ t
+  bare_same (atom a) h = refl
+  bare_same (variable n) h = refl
+  bare_same (body k t) h = absurd h
+  bare_same (head k r ds t) h = absurd h
+  bare_same (form l ts) h = ap (form l) (bare_all_same ts h)
 
   bare_all_same : (ts : Trees) → UnmarkedAll ts → bare_all ts ≡ ts
   bare_all_same none h = refl
-  bare_all_same (more t ts) h = let e = bare-same t h.0 in let f = bare_all_same ts h.1 in λ i. more (e i) (f i)
+  bare_all_same (more t ts) h = let e = bare_same t h.0 in let f = bare_all_same ts h.1 in λ i. more (e i) (f i)

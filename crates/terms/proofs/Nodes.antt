@@ -57,12 +57,12 @@ Stands w (Some (Body k)) = (w ≡ word 3 k) × (is_layer k ≡ true)
 Stands w (Some (Head k r d)) = (w ≡ word 4 (head_payload k r d)) × (is_head k r d ≡ true)
 Stands w (Some (Form l n)) = (w ≡ word l n) × (is_form_label l ≡ true) × (n ≤ 8)
 
-stands-head : (p : ℕ) → p < 16777216 → Stands (word 4 p) (head_at p)
-stands-head p h =
+stands_head : (p : ℕ) → p < 16777216 → Stands (word 4 p) (head_at p)
+stands_head p h =
     cond_both (is_head (p / 65536) (p / 256 % 256) (p % 256)) _ _ (Stands (word 4 p)) (λ e. (omega arith, e)) (λ e. tt)
 
-stands-form : (l n : ℕ) → Stands (word l n) (form_at l n)
-stands-form l n =
+stands_form : (l n : ℕ) → Stands (word l n) (form_at l n)
+stands_form l n =
     cond_both (is_form_label l && leb n 8) _ _ (Stands (word l n))
     (λ e. let both = and_parts (is_form_label l) (leb n 8) e in (refl, both.0, leb-true n 8 both.1))
     (λ e. tt)
@@ -73,8 +73,8 @@ stands_at l p h =
     cond_both (eqb l 0) _ _ S (λ e. (let z = eqb-true l 0 e in omega arith, h))
     (λ e0. cond_both (eqb l 2) _ _ S (λ e. cond_both (ltb p 8) _ _ S (λ f. (let z = eqb-true l 2 e in omega arith, ltb-true p 8 f)) (λ f. tt))
     (λ e2. cond_both (eqb l 3) _ _ S (λ e. cond_both (is_layer p) _ _ S (λ f. (let z = eqb-true l 3 e in omega arith, f)) (λ f. tt))
-    (λ e3. cond_both (eqb l 4) _ _ S (λ e. subst (λ x. Stands (word x p) (head_at p)) (sym (eqb-true l 4 e)) (stands-head p h))
-    (λ e4. stands-form l p))))
+    (λ e3. cond_both (eqb l 4) _ _ S (λ e. subst (λ x. Stands (word x p) (head_at p)) (sym (eqb-true l 4 e)) (stands_head p h))
+    (λ e4. stands_form l p))))
 
 -- what a word is, by the node that it stands for
 pub stands : (w : ℕ) → Stands w (node_of w)

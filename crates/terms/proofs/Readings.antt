@@ -51,9 +51,9 @@ unfolding read
 read-written t v h = ap read (sym (append-nil (written t))) ∙ read_tree t v [] none h refl
 
 -- the words of a tree are read as that tree
-pub term-read : (t : Tree) (v : Bool) → WellMade t v → term_of (written t) ≡ Some t
+pub term_read : (t : Tree) (v : Bool) → WellMade t v → term_of (written t) ≡ Some t
 unfolding term_of
-term-read t v h = let f : Option Trees → Option Tree = λ p. elim p [ None ↦ None | Some ts ↦ only ts ] in ap f (read-written t v h)
+term_read t v h = let f : Option Trees → Option Tree = λ p. elim p [ None ↦ None | Some ts ↦ only ts ] in ap f (read-written t v h)
 
 pub reading : ReadingUndoesWriting
 reading t h = read-written t true h
@@ -76,21 +76,21 @@ all_may_stand (Body k) = refl
 all_may_stand (Head k r d) = refl
 all_may_stand (Form l n) = refl
 
-written-put : (w : ℕ) (ws : List ℕ) (n : Node) (us : Trees) → written_all us ≡ ws → (q : Option Trees) → Put w true n us q → Written (w ∷ ws) q
-written-put w ws n us e None h = tt
-written-put w ws n us e (Some ts) h = (h.0, h.1 ∙ ap (λ l. w ∷ l) e)
+written_put : (w : ℕ) (ws : List ℕ) (n : Node) (us : Trees) → written_all us ≡ ws → (q : Option Trees) → Put w true n us q → Written (w ∷ ws) q
+written_put w ws n us e None h = tt
+written_put w ws n us e (Some ts) h = (h.0, h.1 ∙ ap (λ l. w ∷ l) e)
 
-written-more : (w : ℕ) (ws : List ℕ) (o : Option Node) (r : Option Trees) → Stands w o → Written ws r → Written (w ∷ ws) (reads o r)
-written-more w ws None r s h = tt
-written-more w ws (Some n) None s h = tt
-written-more w ws (Some n) (Some us) s h =
-    written-put w ws n us h.1 (put n us) (put_made w true n us s (all_may_stand n) h.0)
+written_more : (w : ℕ) (ws : List ℕ) (o : Option Node) (r : Option Trees) → Stands w o → Written ws r → Written (w ∷ ws) (reads o r)
+written_more w ws None r s h = tt
+written_more w ws (Some n) None s h = tt
+written_more w ws (Some n) (Some us) s h =
+    written_put w ws n us h.1 (put n us) (put_made w true n us s (all_may_stand n) h.0)
 
 written_read : (ws : List ℕ) → Written ws (read ws)
 unfolding read WellMadeAll written_all
 written_read [] = (tt, refl)
 written_read (w ∷ ws) =
-    subst (Written (w ∷ ws)) (sym (read_more w ws)) (written-more w ws (node_of w) (read ws) (stands w) (written_read ws))
+    subst (Written (w ∷ ws)) (sym (read_more w ws)) (written_more w ws (node_of w) (read ws) (stands w) (written_read ws))
 
 pub writing : WritingUndoesReading
 writing ws ts e = subst (Written ws) e (written_read ws)

@@ -9,10 +9,10 @@ use Rattle.terms.specs.Words.{is_layer, node_of}
 use Rattle.terms.specs.Fronts.{wants, later, ending}
 use Rattle.terms.proofs.Nodes.{Stands, stands}
 
-pub later-none : (r : Result ℕ Broken) → later 0 r ≡ r
+pub later_none : (r : Result ℕ Broken) → later 0 r ≡ r
 unfolding later
-later-none (Ok e) = ap Ok (zero-add e)
-later-none (Err b) = λ i. Err (record { place = zero-add b.place i })
+later_none (Ok e) = ap Ok (zero-add e)
+later_none (Err b) = λ i. Err (record { place = zero-add b.place i })
 
 pub later-later : (m n : ℕ) (r : Result ℕ Broken) → later m (later n r) ≡ later (m + n) r
 unfolding later
@@ -24,17 +24,17 @@ abbrev pub turn : Bool → ℕ → List ℕ → Option ℕ → Result ℕ Broken
 turn v n ws None = Err (record { place = 0 })
 turn v n ws (Some a) = later 1 (ending v (n + a) ws)
 
-pub ending-more : (v : Bool) (n w : ℕ) (ws : List ℕ) → ending v (suc n) (w ∷ ws) ≡ turn v n ws (wants v (node_of w))
+pub ending_more : (v : Bool) (n w : ℕ) (ws : List ℕ) → ending v (suc n) (w ∷ ws) ≡ turn v n ws (wants v (node_of w))
 unfolding ending
-ending-more v n w ws = same (wants v (node_of w))
+ending_more v n w ws = same (wants v (node_of w))
   where
     same : (o : Option ℕ) → elim o [ None ↦ Err (record { place = 0 }) | Some k ↦ later 1 (ending v (n + k) ws) ] ≡ turn v n ws o
     same None = refl
     same (Some a) = refl
 
 -- at a word that stands
-pub ending-stands : (v : Bool) (n w a : ℕ) (ws : List ℕ) → wants v (node_of w) ≡ Some a → ending v (suc n) (w ∷ ws) ≡ later 1 (ending v (n + a) ws)
-ending-stands v n w a ws e = ending-more v n w ws ∙ ap (turn v n ws) e
+pub ending_stands : (v : Bool) (n w a : ℕ) (ws : List ℕ) → wants v (node_of w) ≡ Some a → ending v (suc n) (w ∷ ws) ≡ later 1 (ending v (n + a) ws)
+ending_stands v n w a ws e = ending_more v n w ws ∙ ap (turn v n ws) e
 
 -- a word wants at most nine
 abbrev Few : Option ℕ → Type 0
@@ -51,8 +51,8 @@ few_wanted v w (Some (Head k r d)) s =
     let short = leb-true d 8 (and_parts (is_layer k && ltb r 32) (leb d 8) s.1).1 in omega arith
 few_wanted v w (Some (Form l n)) s = let few : n ≤ 8 = s.2 in omega arith
 
-pub wants-few : (v : Bool) (w a : ℕ) → wants v (node_of w) ≡ Some a → a ≤ 9
-wants-few v w a e = subst Few e (few_wanted v w (node_of w) (stands w))
+pub wants_few : (v : Bool) (w a : ℕ) → wants v (node_of w) ≡ Some a → a ≤ 9
+wants_few v w a e = subst Few e (few_wanted v w (node_of w) (stands w))
 
 -- A loop that has come to place i, with k terms still wanted there, has r for its answer.
 abbrev pub At : Bool → ℕ → ℕ → List ℕ → Result ℕ Broken → Type 0
@@ -74,7 +74,7 @@ module _ (v : Bool) (i : ℕ) (xs : List ℕ) (r : Result ℕ Broken) where
 
   at_word : (k n : ℕ) → k ≡ suc n → i < length xs → At v i k xs r → later i (turn v n (drop (i + 1) xs) (wants v (node_of (get_or xs i 0)))) ≡ r
   at_word k n e l h =
-      ap (later i) (sym (at_drop_more (ending v k) xs i 0 l ∙ ap (λ x. ending v x (get_or xs i 0 ∷ drop (i + 1) xs)) e ∙ ending-more v n (get_or xs i 0) (drop (i + 1) xs))) ∙ h
+      ap (later i) (sym (at_drop_more (ending v k) xs i 0 l ∙ ap (λ x. ending v x (get_or xs i 0 ∷ drop (i + 1) xs)) e ∙ ending_more v n (get_or xs i 0) (drop (i + 1) xs))) ∙ h
 
   pub word_broken : (k n : ℕ) → k ≡ suc n → i < length xs → wants v (node_of (get_or xs i 0)) ≡ None → At v i k xs r → Err (record { place = i }) ≡ r
   unfolding later

@@ -37,8 +37,8 @@ module _ (sep : ℕ) (text : List ℕ) (p : Piece) (cut : FirstPiece sep text p)
   pub pieces_then : p.ended ≡ true → pieces sep text ≡ p.bytes.now ∷ pieces sep p.rest.now
   pieces_then e = rw e at cut.pieces_are
 
-  pub pieces-only : p.ended ≡ false → pieces sep text ≡ p.bytes.now ∷ []
-  pieces-only e = rw e at cut.pieces_are
+  pub pieces_only : p.ended ≡ false → pieces sep text ≡ p.bytes.now ∷ []
+  pieces_only e = rw e at cut.pieces_are
 
   pub rest_shorter : p.ended ≡ true → length p.rest.now < length text
   rest_shorter e =
@@ -50,26 +50,26 @@ module _ (sep : ℕ) (text : List ℕ) (p : Piece) (cut : FirstPiece sep text p)
     where
       by : (t : Bool) → p.ended ≡ t → (ps : List (List ℕ)) × (pieces sep text ≡ p.bytes.now ∷ ps)
       by true e = (pieces sep p.rest.now, pieces_then e)
-      by false e = ([], pieces-only e)
+      by false e = ([], pieces_only e)
 
-grown-some : (b : ℕ) (ps : List (List ℕ)) → (q : List ℕ) × (qs : List (List ℕ)) × (grown b ps ≡ q ∷ qs)
+grown_some : (b : ℕ) (ps : List (List ℕ)) → (q : List ℕ) × (qs : List (List ℕ)) × (grown b ps ≡ q ∷ qs)
 unfolding grown
-grown-some b [] = (b ∷ [], [], refl)
-grown-some b (p ∷ ps) = (b ∷ p, ps, refl)
+grown_some b [] = (b ∷ [], [], refl)
+grown_some b (p ∷ ps) = (b ∷ p, ps, refl)
 
 -- a text has a first piece
-pieces-some : (sep : ℕ) (bs : List ℕ) → (q : List ℕ) × (qs : List (List ℕ)) × (pieces sep bs ≡ q ∷ qs)
+pieces_some : (sep : ℕ) (bs : List ℕ) → (q : List ℕ) × (qs : List (List ℕ)) × (pieces sep bs ≡ q ∷ qs)
 unfolding pieces
-pieces-some sep [] = ([], [], refl)
-pieces-some sep (b ∷ bs) = either (eqb b sep)
+pieces_some sep [] = ([], [], refl)
+pieces_some sep (b ∷ bs) = either (eqb b sep)
   where
     either : (t : Bool) → (q : List ℕ) × (qs : List (List ℕ)) × (elim t [ true ↦ [] ∷ pieces sep bs | false ↦ grown b (pieces sep bs) ] ≡ q ∷ qs)
     either true = ([], pieces sep bs, refl)
-    either false = grown-some b (pieces sep bs)
+    either false = grown_some b (pieces sep bs)
 
-pub lines-ended : (p rest : List ℕ) → lines_of (p ∷ pieces 10 rest) ≡ record { bytes = p; ended = true } ∷ lines_of (pieces 10 rest)
+pub lines_ended : (p rest : List ℕ) → lines_of (p ∷ pieces 10 rest) ≡ record { bytes = p; ended = true } ∷ lines_of (pieces 10 rest)
 unfolding lines_of
-lines-ended p rest = let some = pieces-some 10 rest in rw some.2
+lines_ended p rest = let some = pieces_some 10 rest in rw some.2
 
 lines_last : (p : List ℕ) → 0 < length p → lines_of (p ∷ []) ≡ record { bytes = p; ended = false } ∷ []
 unfolding lines_of
@@ -89,9 +89,9 @@ next_line text p some cut = by p.ended refl
     by : (t : Bool) → p.ended ≡ t → NextLine text (Some p)
     by true e =
         let are = pieces_then 10 text p cut e in
-        (rw (are, lines-ended, e), cut.stretch)
+        (rw (are, lines_ended, e), cut.stretch)
     by false e =
-        let are = pieces-only 10 text p cut e in
+        let are = pieces_only 10 text p cut e in
         let all : (text ≡ p.bytes.now) × (p.rest.now ≡ []) = rw e at cut.stretch in
         let long : 0 < length p.bytes.now = omega (arith, ap length all.0) in
         (rw (are, lines_last p.bytes.now long, e, all.1, no_lines [] refl), cut.stretch)

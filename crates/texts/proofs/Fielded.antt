@@ -29,9 +29,9 @@ unfolding numbers
 numbers_more f fs n ns e es = rw (e, numbers) (rw es)
 
 -- the first of fields that are all numbers
-first-number : (f : List ℕ) (fs : List (List ℕ)) (ms : List ℕ) → numbers (f ∷ fs) ≡ Some ms → (n : ℕ) × (ns : List ℕ) × (number f ≡ Some n) × (numbers fs ≡ Some ns) × (ms ≡ n ∷ ns)
+first_number : (f : List ℕ) (fs : List (List ℕ)) (ms : List ℕ) → numbers (f ∷ fs) ≡ Some ms → (n : ℕ) × (ns : List ℕ) × (number f ≡ Some n) × (numbers fs ≡ Some ns) × (ms ≡ n ∷ ns)
 unfolding numbers
-first-number f fs ms e = by (number f) (numbers fs) refl refl e
+first_number f fs ms e = by (number f) (numbers fs) refl refl e
   where
     by : (o : Option ℕ) (os : Option (List ℕ)) → number f ≡ o → numbers fs ≡ os → elim o [ None ↦ None | Some n ↦ elim os [ None ↦ None | Some ns ↦ Some (n ∷ ns) ] ] ≡ Some ms → (n : ℕ) × (ns : List ℕ) × (number f ≡ Some n) × (numbers fs ≡ Some ns) × (ms ≡ n ∷ ns)
     by None os e es is = absurd (none_not_some is)
@@ -53,12 +53,12 @@ spelled_by : (ps : List (List ℕ)) (bs ns : List ℕ) → pieces 44 bs ≡ ps �
 spelled_by [] bs ns are e = absurd (rw are at (cut_of 44 bs))
 spelled_by (p ∷ []) bs ns are e =
     let cut : bs ≡ p = rw are at (cut_of 44 bs) in
-    let first = first-number p [] ns e in
+    let first = first_number p [] ns e in
     let none : first.1 ≡ [] = same_some (sym first.3 ∙ numbers_end) in
     rw (first.4, none, cut) (number_spelled first.0 p first.2)
 spelled_by (p ∷ q ∷ qs) bs ns are e =
     let cut : Cut 44 bs (p ∷ q ∷ qs) = rw are at (cut_of 44 bs) in
-    let first = first-number p (q ∷ qs) ns e in
+    let first = first_number p (q ∷ qs) ns e in
     let rest = spelled_by (q ∷ qs) cut.0 first.1 cut.2 first.3 in
     rw first.4 (one_more first.0 first.1 p cut.0 bs (number_spelled first.0 p first.2) cut.1 rest)
 

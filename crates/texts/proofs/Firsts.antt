@@ -16,22 +16,22 @@ five (v ∷ w ∷ x ∷ y ∷ z ∷ []) a b c d e l p q r s t = cc
 five (v ∷ w ∷ x ∷ y ∷ z ∷ u ∷ us) a b c d e l p q r s t = absurd (omega arith)
 
 -- what is behind a front
-pub behind-some : (fs bs r : List ℕ) → behind fs bs ≡ Some r → bs ≡ fs ++ r
+pub behind_some : (fs bs r : List ℕ) → behind fs bs ≡ Some r → bs ≡ fs ++ r
 unfolding behind
-behind-some [] bs r e = cc
-behind-some (f ∷ fs) [] r e = cc
-behind-some (f ∷ fs) (b ∷ bs) r e = by (behind-some fs bs r) (eqb f b) refl e
+behind_some [] bs r e = cc
+behind_some (f ∷ fs) [] r e = cc
+behind_some (f ∷ fs) (b ∷ bs) r e = by (behind_some fs bs r) (eqb f b) refl e
   where
     by : (behind fs bs ≡ Some r → bs ≡ fs ++ r) → (t : Bool) → eqb f b ≡ t → elim t [ true ↦ behind fs bs | false ↦ None ] ≡ Some r → b ∷ bs ≡ f ∷ (fs ++ r)
     by rest true t e = let same = eqb-true f b t in let tail = rest e in cc
     by rest false t e = cc
 
 not_behind : (fs bs : List ℕ) → ((r : List ℕ) → bs ≡ fs ++ r → ⊥) → behind fs bs ≡ None
-not_behind fs bs no-rest = by (behind fs bs) refl
+not_behind fs bs no_rest = by (behind fs bs) refl
   where
     by : (o : Option (List ℕ)) → behind fs bs ≡ o → o ≡ None
     by None e = refl
-    by (Some r) e = absurd (no-rest r (behind-some fs bs r e))
+    by (Some r) e = absurd (no_rest r (behind_some fs bs r e))
 
 nothing_said : (bs : List ℕ) → ((r : List ℕ) → bs ≡ codes "head," ++ r → ⊥) → ((r : List ℕ) → bs ≡ codes "form," ++ r → ⊥) → ((r : List ℕ) → bs ≡ codes "table," ++ r → ⊥) → ((r : List ℕ) → bs ≡ codes "rule," ++ r → ⊥) → said bs ≡ broken_line
 unfolding said

@@ -5,7 +5,7 @@ use Rattle.std.proofs.lemmas.Bool.{le-leb, lt-leb}
 use Rattle.texts.specs.declared.text.Piece.{Piece}
 use Rattle.texts.specs.Texts.{digit_of, digits, number, numbers, pieces}
 use Rattle.texts.specs.Pieces.{FirstPiece}
-use Rattle.texts.proofs.Cutting.{pieces_then, pieces-only, pieces_begin}
+use Rattle.texts.proofs.Cutting.{pieces_then, pieces_only, pieces_begin}
 
 module _ (v b : ℕ) (bs : List ℕ) where
   pub no_digit : digit_of b ≡ None → digits v (b ∷ bs) ≡ None
@@ -31,9 +31,9 @@ module _ (field : List ℕ) (i v : ℕ) (lt : i < length field) where
   pub digits_more_at : (d : ℕ) → digit_of (get_or field i 0) ≡ Some d → v * 10 + d ≤ 16777215 → digits v (drop i field) ≡ digits (v * 10 + d) (drop (i + 1) field)
   digits_more_at d e l = ap (digits v) (drop_more field i 0 lt) ∙ digits_more v _ _ d e l
 
-pub digits-none : (v : ℕ) → digits v [] ≡ Some v
+pub digits_none : (v : ℕ) → digits v [] ≡ Some v
 unfolding digits
-digits-none v = refl
+digits_none v = refl
 
 pub no_field : (field : List ℕ) → length field ≡ 0 → number field ≡ None
 unfolding number
@@ -85,7 +85,7 @@ module _ (read rest : List ℕ) (p : Piece) (cut : FirstPiece 44 rest p) where
   bad_field e = let begins = pieces_begin 44 rest p cut in ap (λ l. resumed read (numbers l)) begins.1 ∙ not_a_number read _ begins.0 e
 
   pub last_field : (n : ℕ) → p.ended ≡ false → number p.bytes.now ≡ Some n → left ≡ Some (read ++ n ∷ [])
-  last_field n l e = ap (λ l. resumed read (numbers l)) (pieces-only 44 rest p cut l) ∙ one_number read _ [] n e ∙ numbers_end (read ++ n ∷ [])
+  last_field n l e = ap (λ l. resumed read (numbers l)) (pieces_only 44 rest p cut l) ∙ one_number read _ [] n e ∙ numbers_end (read ++ n ∷ [])
 
   pub next_field : (n : ℕ) → p.ended ≡ true → number p.bytes.now ≡ Some n → left ≡ resumed (read ++ n ∷ []) (numbers (pieces 44 p.rest.now))
   next_field n l e = ap (λ l. resumed read (numbers l)) (pieces_then 44 rest p cut l) ∙ one_number read _ _ n e

@@ -3,7 +3,7 @@ use Rattle.std.proofs.Common.{◌≡◌, ℕ, List, [], ◌∷◌, ◌++◌, Som
 use Rattle.std.proofs.ByRecursion.{All-append}
 use Rattle.texts.specs.Texts.{Reading, head_line, form_line, table_line, rule_line, broken_line, behind, said, numbered, numbers, pieces}
 use Rattle.texts.specs.Spelling.{FieldsSpelled, LineWith, LineSpelled}
-use Rattle.texts.proofs.Firsts.{behind-some}
+use Rattle.texts.proofs.Firsts.{behind_some}
 use Rattle.texts.proofs.Parted.{Without}
 use Rattle.texts.proofs.Fielded.{fields_read, fields_spelled, fields_unended}
 
@@ -36,12 +36,12 @@ unfolding said behind
 rule_says_lem fields = refl
 
 -- a line that spells a reading says it
-pub line-said : (r : Reading) (line : List ℕ) → LineSpelled r line → Spoken r line
-line-said (head_line ns) line s = spoken_by (codes "head,") head_line (omega arith) head_says ns line s
-line-said (form_line ns) line s = spoken_by (codes "form,") form_line (omega arith) form_says_lem ns line s
-line-said (table_line ns) line s = spoken_by (codes "table,") table_line (omega arith) table_says_lem ns line s
-line-said (rule_line ns) line s = spoken_by (codes "rule,") rule_line (omega arith) rule_says_lem ns line s
-line-said broken_line line s = absurd s
+pub line_said : (r : Reading) (line : List ℕ) → LineSpelled r line → Spoken r line
+line_said (head_line ns) line s = spoken_by (codes "head,") head_line (omega arith) head_says ns line s
+line_said (form_line ns) line s = spoken_by (codes "form,") form_line (omega arith) form_says_lem ns line s
+line_said (table_line ns) line s = spoken_by (codes "table,") table_line (omega arith) table_says_lem ns line s
+line_said (rule_line ns) line s = spoken_by (codes "rule,") rule_line (omega arith) rule_says_lem ns line s
+line_said broken_line line s = absurd s
 
 -- the bytes behind a word say a reading that is not broken
 module _ (bytes : List ℕ) (r : Reading) (unbroken : broken_line ≡ r → ⊥) where
@@ -54,12 +54,12 @@ module _ (bytes : List ℕ) (r : Reading) (unbroken : broken_line ≡ r → ⊥)
     where
       by : (o : Option (List ℕ)) → numbers (pieces 44 fields) ≡ o → elim o [ None ↦ broken_line | Some ns ↦ kind ns ] ≡ r → Spells
       by None o is = absurd (unbroken is)
-      by (Some ns) o is = rw (← is) (spells ns (bytes ++ 10 ∷ []) (fields, ap (λ l. l ++ 10 ∷ []) (behind-some word bytes fields e), fields_spelled ns fields o))
+      by (Some ns) o is = rw (← is) (spells ns (bytes ++ 10 ∷ []) (fields, ap (λ l. l ++ 10 ∷ []) (behind_some word bytes fields e), fields_spelled ns fields o))
 
   -- bytes that say it, and byte 10, spell it
-  pub line-spelled : said bytes ≡ r → Spells
+  pub line_spelled : said bytes ≡ r → Spells
   unfolding said
-  line-spelled is = by (behind (codes "head,") bytes) (behind (codes "form,") bytes) (behind (codes "table,") bytes) (behind (codes "rule,") bytes) refl refl refl refl is
+  line_spelled is = by (behind (codes "head,") bytes) (behind (codes "form,") bytes) (behind (codes "table,") bytes) (behind (codes "rule,") bytes) refl refl refl refl is
     where
       by : (h f t s : Option (List ℕ)) → behind (codes "head,") bytes ≡ h → behind (codes "form,") bytes ≡ f → behind (codes "table,") bytes ≡ t → behind (codes "rule,") bytes ≡ s → elim h [ Some fields ↦ numbered head_line fields | None ↦ elim f [ Some fields ↦ numbered form_line fields | None ↦ elim t [ Some fields ↦ numbered table_line fields | None ↦ elim s [ Some fields ↦ numbered rule_line fields | None ↦ broken_line ] ] ] ] ≡ r → Spells
       by (Some fields) f t s eh ef et es is = worded (codes "head,") head_line (λ ns line l. l) fields eh is

@@ -5,7 +5,7 @@ use Rattle.lists.specs.Lines.{declared_by}
 use Rattle.lists.specs.Acceptance.{with_header, with_table, unless_fault}
 use Rattle.lists.specs.Held.{listed_in}
 use Rattle.lists.proofs.Judging.{passed_on}
-use Rattle.lists.proofs.Accepting.{too_long, by_header, by_table, same-fault, header_keeps, few_parts}
+use Rattle.lists.proofs.Accepting.{too_long, by_header, by_table, same_fault, header_keeps, few_parts}
 use Rattle.lists.proofs.Faultless.{no_fault}
 use Rattle.lists.proofs.accept.read_list.Goals as goal
 
@@ -33,17 +33,17 @@ fault_in-requires c =
 pub returns-in-Some : goal.returns-in-Some
 returns-in-Some c =
     let short = and_from _ _ (le-leb _ 16384 c.if-header-gt-MOST_BYTES.false) (le-leb _ 16384 c.if-table-gt-MOST_BYTES.false) in
-    let fault = same-fault _ _ _ _ _ _ c.deref.ensures.value c.deref-2.ensures.value (sym c.in-Some.is ∙ c.fault_in.ensures) in
+    let fault = same_fault _ _ _ _ _ _ c.deref.ensures.value c.deref-2.ensures.value (sym c.in-Some.is ∙ c.fault_in.ensures) in
     inr (by_table _ _ _ _ short c.in_ok-head.ensures c.in_ok-rules.ensures ∙ ap (unless_fault _) fault)
 
 pub invariant_of-result : goal.invariant_of-result
 invariant_of-result c =
     let keeps = header_keeps _ _ c.in_ok-head.ensures in
-    let clean = no_fault _ (same-fault _ _ _ _ _ _ c.deref.ensures.value c.deref-2.ensures.value (sym c.in-None.is ∙ c.fault_in.ensures)) in
+    let clean = no_fault _ (same_fault _ _ _ _ _ _ c.deref.ensures.value c.deref-2.ensures.value (sym c.in-None.is ∙ c.fault_in.ensures)) in
     record { layered = keeps.layer; rising = keeps.rising_forms; shaped = clean.shaped; linear = clean.linear; apart = clean.apart; ruled = clean.ruled }
 
 pub returns-in-None : goal.returns-in-None
 returns-in-None c =
     let short = and_from _ _ (le-leb _ 16384 c.if-header-gt-MOST_BYTES.false) (le-leb _ 16384 c.if-table-gt-MOST_BYTES.false) in
-    let fault = same-fault _ _ _ _ _ _ c.deref.ensures.value c.deref-2.ensures.value (sym c.in-None.is ∙ c.fault_in.ensures) in
+    let fault = same_fault _ _ _ _ _ _ c.deref.ensures.value c.deref-2.ensures.value (sym c.in-None.is ∙ c.fault_in.ensures) in
     by_table _ _ _ _ short c.in_ok-head.ensures c.in_ok-rules.ensures ∙ ap (unless_fault _) fault

@@ -1,7 +1,7 @@
 use Rattle.std.proofs.Common.{sym, ◌∙◌}
 use Rattle.std.proofs.lemmas.List.{at_drop_all}
 use Rattle.replay.specs.Numbers.{digits_of}
-use Rattle.replay.proofs.Digits.{no_digit_at, one_digit_at, digits-none}
+use Rattle.replay.proofs.Digits.{no_digit_at, one_digit_at, digits_none}
 use Rattle.replay.proofs.number.digits_value.Goals as goal
 
 pub returns-in_err-value : goal.returns-in_err-value
@@ -12,4 +12,4 @@ pub loop-byte-preserved : goal.loop-byte-preserved
 loop-byte-preserved c = sym (one_digit_at _ _ _ _ c.loop-byte-test.true _ (sym c.in_ok-value.ensures)) ∙ c.loop-byte.invariant
 
 pub returns : goal.returns
-returns c = sym (at_drop_all (digits_of c.args.most c.loop-byte.value) _ _ c.loop-byte-test.false ∙ digits-none _ _) ∙ c.loop-byte.invariant
+returns c = sym (at_drop_all (digits_of c.args.most c.loop-byte.value) _ _ c.loop-byte-test.false ∙ digits_none _ _) ∙ c.loop-byte.invariant

@@ -2,11 +2,11 @@ use Rattle.std.proofs.Common.{refl, ap}
 use Rattle.std.proofs.Output.{has_written_append, has_written_of_eq}
 use Rattle.std.proofs.lemmas.List.{take_all}
 use Rattle.replay.specs.Panel.{behind_text}
-use Rattle.replay.proofs.Shown.{none-behind, behind_next}
+use Rattle.replay.proofs.Shown.{none_behind, behind_next}
 use Rattle.replay.proofs.panel.write_behind.Goals as goal
 
 pub loop-word-init : goal.loop-word-init
-loop-word-init g c plain = none-behind g.W.Write.write_str_gives c.args.f.now plain
+loop-word-init g c plain = none_behind g.W.Write.write_str_gives c.args.f.now plain
 
 pub loop-word-preserved : goal.loop-word-preserved
 loop-word-preserved g c plain =

@@ -2,7 +2,7 @@
 use Rattle.std.proofs.Common.{Err, sym, subst, arith}
 use Rattle.languages.specs.declared.refusal.Refusal.TheVariants.{TooLong}
 use Rattle.steppers.specs.Written.{Admitted}
-use Rattle.steppers.proofs.Admissions.{too_long, no_term, lacks, lacks-none}
+use Rattle.steppers.proofs.Admissions.{too_long, no_term, lacks, lacks_none}
 use Rattle.steppers.proofs.accept.admit.Goals as goal
 
 pub returns-then-words-most_words : goal.returns-then-words-most_words
@@ -23,4 +23,4 @@ returns-in-Some g c =
 pub returns-in-None : goal.returns-in-None
 returns-in-None g c =
     let whole = c.in_default.ensures in
-    lacks-none g.S.Stepper.table c.args.words.now (omega (arith, c.most_words.ensures, c.if-words-most_words.false)) c.in_default.field-0 (sym whole.value) whole.law.0 whole.law.1 whole.law.2 c.in-None.ensures
+    lacks_none g.S.Stepper.table c.args.words.now (omega (arith, c.most_words.ensures, c.if-words-most_words.false)) c.in_default.field-0 (sym whole.value) whole.law.0 whole.law.1 whole.law.2 c.in-None.ensures

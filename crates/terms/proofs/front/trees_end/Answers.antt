@@ -4,11 +4,11 @@ use Rattle.terms.specs.declared.front.Broken.{Broken}
 use Rattle.terms.specs.Fronts.{ending}
 use Rattle.terms.specs.Laws.{Ends}
 use Rattle.terms.proofs.Verdicts.{ends}
-use Rattle.terms.proofs.Turns.{later-none, none_wanted, words_over, word_broken, word_stands, wants-few}
+use Rattle.terms.proofs.Turns.{later_none, none_wanted, words_over, word_broken, word_stands, wants_few}
 use Rattle.terms.proofs.front.trees_end.Goals as goal
 
 pub loop-i-init : goal.loop-i-init
-loop-i-init c = (later-none _, omega arith)
+loop-i-init c = (later_none _, omega arith)
 
 -- of one tree, the answer is where it ends
 ends_if_one : (v : Bool) (k : ℕ) (ws : List ℕ) (r : Result ℕ Broken) → r ≡ ending v k ws → k ≡ 1 → Ends v ws r
@@ -27,7 +27,7 @@ returns-in_default c =
 pub loop-i-preserved : goal.loop-i-preserved
 loop-i-preserved c =
     let wants = sym c.in-Some.ensures ∙ ap Some (sym c.from.ensures) in
-    let few = wants-few c.args.variables (get_or c.args.words.now c.loop-i.i 0) c.from.result wants in
+    let few = wants_few c.args.variables (get_or c.args.words.now c.loop-i.i 0) c.from.result wants in
     (word_stands _ _ _ _ c.loop-i.wanted (c.loop-i.wanted - 1) _ (omega arith) c.loop-i-test.true wants c.loop-i.invariant.0, omega arith)
 
 -- behind the loop, its place is the run's length

@@ -1,7 +1,7 @@
 use Rattle.std.proofs.Common.{sym, ◌∙◌}
 use Rattle.texts.specs.Texts.{digits}
 use Rattle.std.proofs.lemmas.List.{at_drop_all}
-use Rattle.texts.proofs.Numbering.{no_digit_at, too_large_at, digits_more_at, digits-none}
+use Rattle.texts.proofs.Numbering.{no_digit_at, too_large_at, digits_more_at, digits_none}
 use Rattle.texts.proofs.number.digits_value.Goals as goal
 
 pub returns-in_err-value : goal.returns-in_err-value
@@ -18,4 +18,4 @@ loop-byte-preserved c =
     (fits, sym (digits_more_at _ _ _ c.loop-byte-test.true _ (sym c.in_ok-value.ensures) fits) ∙ c.loop-byte.invariant.1)
 
 pub returns : goal.returns
-returns c = sym (at_drop_all (digits c.loop-byte.value) _ _ c.loop-byte-test.false ∙ digits-none _) ∙ c.loop-byte.invariant.1
+returns c = sym (at_drop_all (digits c.loop-byte.value) _ _ c.loop-byte-test.false ∙ digits_none _) ∙ c.loop-byte.invariant.1

@@ -6,7 +6,7 @@ use Rattle.steppers.specs.Loads.{meaning_of}
 use Rattle.languages.specs.declared.answers.Stepped.TheVariants.{Moved, Full}
 use Rattle.steppers.specs.Placed.{FoundIn}
 use Rattle.steppers.specs.Written.{rewritten}
-use Rattle.steppers.proofs.Machining.{going, settles, no_items, some-term, begins, steps_nothing, steps_ended, steps_waits, steps_sticks, steps_no_child, rewrites}
+use Rattle.steppers.proofs.Machining.{going, settles, no_items, some_term, begins, steps_nothing, steps_ended, steps_waits, steps_sticks, steps_no_child, rewrites}
 use Rattle.steppers.proofs.run.MachineLanguage.step.Goals as goal
 
 pub returns-then-is_empty : goal.returns-then-is_empty
@@ -18,7 +18,7 @@ returns-then-is_empty g c =
 pub returns-then-is_over : goal.returns-then-is_over
 returns-then-is_over g c =
     let v = c.args.self.now.term in
-    let t = some-term (vec_items v) v.len c.args.self.now.holds v.ok.0 (eqb-false _ 0 (sym c.if-is_empty.ensures)) in
+    let t = some_term (vec_items v) v.len c.args.self.now.holds v.ok.0 (eqb-false _ 0 (sym c.if-is_empty.ensures)) in
     let over = c.if-is_over.ensures t.0 (begins _ t.0 t.1 (t.2 ∙ sym c.deref.ensures.value)) in
     record { answer = steps_ended g.S.Stepper.table g.met.S.Stepper.sound (vec_items v) c.args.inputs t.0 t.1 t.2 (sym over); stays = refl }
 
