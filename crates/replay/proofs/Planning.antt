@@ -5,13 +5,13 @@ use Rattle.std.proofs.lemmas.List.{take_more}
 use Rattle.languages.specs.declared.calls.Call.{Call}
 use Rattle.replay.specs.declared.plan.Entry.{Entry}
 use Rattle.replay.specs.Commands.{words_of}
-use Rattle.replay.specs.Plans.{Says, Plans, PlansAll}
+use Rattle.replay.specs.Plans.{SaysOfLine, Plans, PlansAll}
 
 pub plans_none : (entries : List Entry) (calls : List Call) → entries ≡ [] → calls ≡ [] → PlansAll [] [] entries calls
 unfolding PlansAll
 plans_none entries calls e c = subst (λ (es : List Entry). PlansAll [] [] es calls) (sym e) c
 
-plans_more : (lines : List (List ℕ)) (before : List Call) (entries : List Entry) (mid : List Call) (line : List ℕ) (entry : Entry) (after : List Call) → PlansAll lines before entries mid → Says (words_of line) entry → Plans (words_of line) mid entry after → PlansAll (lines ++ line ∷ []) before (entries ++ entry ∷ []) after
+plans_more : (lines : List (List ℕ)) (before : List Call) (entries : List Entry) (mid : List Call) (line : List ℕ) (entry : Entry) (after : List Call) → PlansAll lines before entries mid → SaysOfLine line entry → Plans (words_of line) mid entry after → PlansAll (lines ++ line ∷ []) before (entries ++ entry ∷ []) after
 unfolding PlansAll
 plans_more [] before [] mid line entry after all says plans =
     (after, says, subst (λ (x : List Call). Plans (words_of line) x entry after) all plans, refl)
@@ -26,7 +26,7 @@ module _ {V : Type 0} (bytes_of : V → List ℕ) (lines : List V) (i : ℕ) (li
   lines_more l is =
       ap (map bytes_of) (take_more lines i line l) ∙ map-append bytes_of (take i lines) (get_or lines i line ∷ []) ∙ ap (λ (v : V). map bytes_of (take i lines) ++ bytes_of v ∷ []) (sym is)
 
-  pub plans_next : (bytes : List ℕ) (entries more : List Entry) (calls after : List Call) (entry : Entry) → i < length lines → line ≡ get_or lines i line → bytes ≡ bytes_of line → more ≡ entries ++ entry ∷ [] → PlansAll (map bytes_of (take i lines)) [] entries calls → Says (words_of bytes) entry × Plans (words_of bytes) calls entry after → PlansAll (map bytes_of (take (i + 1) lines)) [] more after
+  pub plans_next : (bytes : List ℕ) (entries more : List Entry) (calls after : List Call) (entry : Entry) → i < length lines → line ≡ get_or lines i line → bytes ≡ bytes_of line → more ≡ entries ++ entry ∷ [] → PlansAll (map bytes_of (take i lines)) [] entries calls → SaysOfLine bytes entry × Plans (words_of bytes) calls entry after → PlansAll (map bytes_of (take (i + 1) lines)) [] more after
   plans_next bytes entries more calls after entry l is same items all plans =
       let lines_are : map bytes_of (take (i + 1) lines) ≡ map bytes_of (take i lines) ++ bytes ∷ [] = lines_more l is ∙ ap (λ (b : List ℕ). map bytes_of (take i lines) ++ b ∷ []) (sym same) in
       subst (λ (ls : List (List ℕ)). PlansAll ls [] more after) (sym lines_are)

@@ -1,5 +1,6 @@
 -- What the account says of a line, and the call that the line makes.
 use Rattle.std.specs.Prelude.{◌≡◌, ℕ, List, [], ◌∷◌, ◌++◌, replicate, Ok, Err, vec_items, codes}
+use Rattle.std.specs.Str.{IsUtf8}
 use Rattle.languages.specs.declared.calls.Call.{Call}
 use Rattle.languages.specs.declared.calls.Call.TheVariants as call
 use Rattle.replay.specs.declared.command.Command.TheVariants as command
@@ -17,10 +18,10 @@ Calls words (call.Load v) = (texts : List (List ℕ)) × (words ≡ codes "load"
 Calls words (call.Step image) = AsksMachine words (Ok (machine.Step image))
 Calls words (call.Show buffer) = (n : ℕ) × AsksMachine words (Ok (machine.Show n)) × (vec_items buffer ≡ replicate n 0)
 
--- what the account says of a line with these words
+-- what the account says of a line of text with these words
 abbrev pub Says : List (List ℕ) → Entry → Type 0
 Says words entry.Nothing = Asks words (Ok command.Nothing)
-Says words entry.NoText = Unit {0}
+Says words entry.NoText = ⊥
 Says words (entry.Misread m) = NamesNoMachineCommand words × Asks words (Err m)
 Says words (entry.MachineMisread m) = AsksMachine words (Err m)
 Says words (entry.NoWord w) = (texts : List (List ℕ)) × (words ≡ codes "load" ∷ texts) × NoWordFirst texts w.now
@@ -28,6 +29,18 @@ Says words (entry.List header table) = Asks words (Ok (command.List header table
 Says words entry.Held = Asks words (Ok command.Held)
 Says words (entry.Core line) = (core : Core) × AsksMachine words (Ok (machine.Core core))
 Says words (entry.Call line) = Unit {0}
+
+-- what the account says of a line of these bytes: only of bytes that are no text in UTF-8 that they are none
+abbrev pub SaysOfLine : List ℕ → Entry → Type 0
+SaysOfLine bytes entry.NoText = ¬ IsUtf8 bytes
+SaysOfLine bytes entry.Nothing = Says (words_of bytes) entry.Nothing
+SaysOfLine bytes (entry.Misread m) = Says (words_of bytes) (entry.Misread m)
+SaysOfLine bytes (entry.MachineMisread m) = Says (words_of bytes) (entry.MachineMisread m)
+SaysOfLine bytes (entry.NoWord w) = Says (words_of bytes) (entry.NoWord w)
+SaysOfLine bytes (entry.List header table) = Says (words_of bytes) (entry.List header table)
+SaysOfLine bytes entry.Held = Says (words_of bytes) entry.Held
+SaysOfLine bytes (entry.Core line) = Says (words_of bytes) (entry.Core line)
+SaysOfLine bytes (entry.Call line) = Says (words_of bytes) (entry.Call line)
 
 -- a line that is a call puts it behind the calls before it, and any other line leaves them
 abbrev pub Plans : List (List ℕ) → List Call → Entry → List Call → Type 0
@@ -47,4 +60,4 @@ PlansAll [] before [] after = after ≡ before
 PlansAll [] before (e ∷ es) after = ⊥
 PlansAll (l ∷ ls) before [] after = ⊥
 PlansAll (l ∷ ls) before (e ∷ es) after =
-    (next : List Call) × Says (words_of l) e × Plans (words_of l) before e next × PlansAll ls next es after
+    (next : List Call) × SaysOfLine l e × Plans (words_of l) before e next × PlansAll ls next es after

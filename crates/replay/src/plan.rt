@@ -3,7 +3,7 @@ ghost use Rattle.std.specs.Prelude.{List, [], ◌∷◌, map, IfOk, vec_items, c
 ghost use Rattle.languages.specs.declared.calls.Call.{Call};
 ghost use Rattle.replay.specs.Commands.{words_of};
 ghost use Rattle.replay.specs.MachineCommands.{NamesNoMachineCommand};
-ghost use Rattle.replay.specs.Plans.{Says, Plans, PlansAll};
+ghost use Rattle.replay.specs.Plans.{Says, SaysOfLine, Plans, PlansAll};
 
 use crate::command::{Command, Misread, parse};
 use crate::machine_command::{MachineCommand, MachineMisread, parse_machine};
@@ -73,7 +73,7 @@ fn plan_line<'a>(
     bytes: &'a [u8],
     calls: &mut Vec<Call>,
 ) -> Result<Entry<'a>, AllocError>
-    ensures { IfOk result (λ e. Says (words_of bytes.now) e × Plans (words_of bytes.now) calls.old.items e calls.new.items) }
+    ensures { IfOk result (λ e. SaysOfLine bytes.now e × Plans (words_of bytes.now) calls.old.items e calls.new.items) }
 {
     let Ok(text) = from_utf8(bytes) else {
         return Ok(Entry::NoText);
