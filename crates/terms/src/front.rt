@@ -100,5 +100,5 @@ pub fn argument(words: &[u32], i: usize) -> Option<&[u32]>
     let skipped = trees_end(behind, i, false).ok()?;
     let child = &behind[skipped..];
     let size = end(child).ok()?;
-    Some(&child[0..size])
+    Some(&child[..size])
 }

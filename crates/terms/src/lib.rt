@@ -5,4 +5,5 @@
 pub mod fault;
 pub mod front;
 pub mod laws;
+pub mod word;
 pub mod words;

@@ -1,9 +1,9 @@
 // One word of a term: its label and payload, and the node that it stands for.
 ghost use Rattle.std.specs.Prelude.{◌≡◌, ◌+◌};
-ghost use Rattle.terms.specs.Words.{node_of, arity_of, form_at, head_at};
+ghost use Rattle.terms.specs.Words.{is_layer, node_of, arity_of, form_at, head_at};
 
-// A word is label × LABEL_UNIT + payload.
-pub const LABEL_UNIT: u32 = 16_777_216;
+use crate::word::Word;
+pub use crate::word::{LABEL_UNIT, LAST_LABEL};
 
 pub const ATOM: u32 = 0;
 
@@ -15,7 +15,6 @@ pub const HEAD: u32 = 4;
 
 pub const FIRST_FORM: u32 = 16;
 
-pub const LAST_LABEL: u32 = 255;
 // Variables are numbered 0 to 7.
 pub const VARIABLES: u32 = 8;
 
@@ -62,13 +61,20 @@ impl Node {
     }
 }
 
+// Whether the number is that of a layer.
+pub fn is_layer(number: u32) -> bool
+    ensures { result ≡ is_layer number }
+{
+    (FIRST_LAYER..=LAST_LAYER).contains(&number)
+}
+
 fn head_node(payload: u32) -> Option<Node>
     ensures { result ≡ head_at payload }
 {
     let layer = payload / HEAD_LAYER_UNIT;
     let rule = payload / HEAD_RULE_UNIT % HEAD_RULE_UNIT;
     let dropped = payload % HEAD_RULE_UNIT;
-    if layer < FIRST_LAYER || layer > LAST_LAYER || rule >= RULES || dropped > MOST_DROPPED {
+    if !is_layer(layer) || rule >= RULES || dropped > MOST_DROPPED {
         return None;
     }
     Some(Node::Head {
@@ -81,7 +87,7 @@ fn head_node(payload: u32) -> Option<Node>
 fn form_node(label: u32, count: u32) -> Option<Node>
     ensures { result ≡ form_at label count }
 {
-    if label < FIRST_FORM || label > LAST_LABEL || count > MOST_CHILDREN {
+    if !(FIRST_FORM..=LAST_LABEL).contains(&label) || count > MOST_CHILDREN {
         return None;
     }
     Some(Node::Form { label, count })
@@ -91,14 +97,11 @@ fn form_node(label: u32, count: u32) -> Option<Node>
 pub fn decode(word: u32) -> Option<Node>
     ensures { result ≡ node_of word }
 {
-    let label = word / LABEL_UNIT;
-    let payload = word % LABEL_UNIT;
+    let Word { label, payload } = Word::from(word);
     match label {
         ATOM => Some(Node::Atom { value: payload }),
         VARIABLE if payload < VARIABLES => Some(Node::Variable { index: payload }),
-        BODY if payload >= FIRST_LAYER && payload <= LAST_LAYER => Some(Node::Body {
-            layer: payload,
-        }),
+        BODY if is_layer(payload) => Some(Node::Body { layer: payload }),
         HEAD => head_node(payload),
         _ => form_node(label, payload),
     }

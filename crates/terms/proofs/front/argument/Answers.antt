@@ -1,5 +1,5 @@
 -- The child that is answered: its bounds, and that it is the one at its place.
-use Rattle.std.proofs.Common.{◌≡◌, ℕ, ◌+◌, ◌-◌, ◌<◌, ◌≤◌, false, List, ◌∷◌, length, take, drop, Some, Ok, Err, Result, sym, ap, ◌∙◌, subst, one-add, arith, Bor}
+use Rattle.std.proofs.Common.{◌≡◌, ℕ, ◌+◌, ◌<◌, ◌≤◌, false, List, ◌∷◌, length, take, drop, Some, Ok, Err, Result, sym, ap, ◌∙◌, subst, one-add, arith, Bor}
 use Rattle.std.proofs.lemmas.List.{length-drop, length-take-le, take_rest}
 use Rattle.std.specs.Result.{result_ok}
 use Rattle.terms.specs.declared.front.Broken.{Broken}
@@ -43,11 +43,6 @@ slice_bounds-child-count c = skips c
 pub slice_bounds-child-start : goal.slice_bounds-child-start
 slice_bounds-child-start c = skips c
 
-pub returns-in_err-size : goal.returns-in_err-size
-returns-in_err-size c =
-    let rest = take_rest c.in_ok-word.behind.now c.in_ok-skipped.skipped in
-    grind (arith, rest)
-
 pub returns : goal.returns
 returns c =
     let w = c.in_ok-word.word.now in
@@ -60,5 +55,4 @@ returns c =
     let ended : ending false 1 (drop skipped ws) ≡ Ok size = ap (ending false 1) (sym rest) ∙ sym c.end.ensures.value ∙ told in
     let child : child_at c.args.i (w ∷ ws) ≡ Some (record { place = 1 + skipped; length = size }) = child_is _ w _ ws skipped size c.in_ok-wanted_by.ensures (omega arith) before ended in
     let within = ends_within false 1 (drop skipped ws) size ended in
-    let all : size - 0 ≡ size = omega arith in
-    answered_some _ c.args.i w ws skipped size _ c.in_ok-word.ensures.cases.0 (skips (goal.at.returns c).In_ok-skipped) within child (ap (λ n. take n (take (length ws - skipped) (drop skipped ws))) all ∙ ap (take size) rest)
+    answered_some _ c.args.i w ws skipped size _ c.in_ok-word.ensures.cases.0 (skips (goal.at.returns c).In_ok-skipped) within child (ap (take size) rest)
