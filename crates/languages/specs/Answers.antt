@@ -1,8 +1,9 @@
--- The numbers of each refusal, and the effect of each answer of a step.
-use Rattle.std.specs.Prelude.{ℕ}
+-- The numbers of each refusal, the effect of each answer of a step, and how answers are written.
+use Rattle.std.specs.Prelude.{ℕ, List, ◌++◌, codes, decimal}
 use Rattle.terms.specs.declared.fault.Fault.{Fault}
 use Rattle.languages.specs.declared.refusal.Refusal.{Refusal}
 use Rattle.languages.specs.declared.refusal.Refusal.TheVariants.{NotAbove, TooLong, NoTerm, LowMark, Unmatched, ExpansionTooLong, NoSuchForm, NothingHeld, ShortBuffer}
+use Rattle.languages.specs.declared.answers.Loaded.{Loaded}
 use Rattle.languages.specs.declared.answers.Stepped.{Stepped}
 use Rattle.languages.specs.declared.answers.Stepped.TheVariants.{Moved, Ended, Stuck, Full}
 
@@ -25,3 +26,12 @@ effect_of (Moved effect) = effect
 effect_of Ended = 0
 effect_of Stuck = 0
 effect_of Full = 0
+
+abbrev pub loaded_text : Loaded → List ℕ
+loaded_text l = codes "words " ++ (decimal l.words ++ (codes ", uses " ++ decimal l.uses))
+
+abbrev pub stepped_text : Stepped → List ℕ
+stepped_text (Moved effect) = codes "moved, effect " ++ decimal effect
+stepped_text Ended = codes "ended"
+stepped_text Stuck = codes "stuck"
+stepped_text Full = codes "full"

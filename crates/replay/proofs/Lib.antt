@@ -1,5 +1,4 @@
 mod Digits
 mod Planning
 mod Shown
-mod Wording
 mod Spaced

@@ -1,10 +1,15 @@
 -- The text of a term that is shown, word by word.
-use Rattle.std.proofs.Common.{◌≡◌, ℕ, ◌+◌, ◌<◌, List, [], ◌∷◌, ◌++◌, length, get_or, take, codes, sym, ap, ◌∙◌, append_assoc, append-nil, arith}
+use Rattle.std.proofs.Common.{◌≡◌, ℕ, ◌+◌, ◌/◌, ◌%◌, ◌<◌, List, [], ◌∷◌, ◌++◌, length, get_or, take, codes, sym, ap, ◌∙◌, append_assoc, append-nil, arith}
 use Rattle.std.specs.declared.fmt.Formatter.{Formatter}
 use Rattle.std.specs.Fmt.{IsPlainFormatter, HasWritten}
 use Rattle.std.proofs.Output.{writes_in_calls_nil}
 use Rattle.std.proofs.lemmas.List.{take_more}
+use Rattle.terms.specs.Words as terms
 use Rattle.replay.specs.Panel.{word_text, behind_text, term_text}
+
+-- the text of a word, by its parts
+pub word_is : (w l p : ℕ) → l ≡ w / 16777216 → p ≡ w % 16777216 → terms.word_text l p ≡ word_text w
+word_is w l p label payload = ap (λ n. terms.word_text n p) label ∙ ap (terms.word_text (w / 16777216)) payload
 
 behind_more : (ws : List ℕ) (w : ℕ) → behind_text (ws ++ w ∷ []) ≡ behind_text ws ++ (codes " " ++ word_text w)
 unfolding behind_text

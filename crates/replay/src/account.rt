@@ -1,11 +1,39 @@
-// Words the lines of the account.
-ghost use Rattle.std.specs.Prelude.{◌≡◌, Some};
-ghost use Rattle.lists.specs.Refusals.{fault_of};
-ghost use Rattle.replay.specs.Account.{sentence_of, summary_text, verdict_text, list_text};
+// Words the answers of the account: what an answer says, or its refusal.
+ghost use Rattle.std.specs.Prelude.{Some};
+ghost use Rattle.replay.specs.Account.{summary_text, accepted_text, outcome_text, list_text};
 
-use crate::verdict::{Summary, Verdict};
+use crate::refused::{Explained, Refused};
+use crate::verdict::Summary;
 use lists::refusal::Refusal;
 use std::fmt;
+
+// The answer of a list or a call.
+#[derive(Clone, Copy)]
+pub struct Outcome<T, R>(pub Result<T, R>);
+
+impl<T: fmt::Display, R: Explained> fmt::Display for Outcome<T, R> {
+    ghost output = { λ x. outcome_text T.output R.fault R.sentence x.0 };
+
+    fn fmt<W: fmt::Write>(&self, f: &mut fmt::Formatter<W>) -> fmt::Result {
+        match &self.0 {
+            Ok(answer) => answer.fmt(f),
+            Err(refusal) => Refused(*refusal).fmt(f),
+        }
+    }
+}
+
+// What was accepted.
+#[derive(Clone, Copy)]
+pub struct Accepted<T>(pub T);
+
+impl<T: fmt::Display> fmt::Display for Accepted<T> {
+    ghost output = { λ x. accepted_text (T.output x.0) };
+
+    fn fmt<W: fmt::Write>(&self, f: &mut fmt::Formatter<W>) -> fmt::Result {
+        let accepted = &self.0;
+        write!(f, "accepted, {accepted}")
+    }
+}
 
 impl fmt::Display for Summary {
     ghost output = { λ s. Some (summary_text s) };
@@ -20,60 +48,23 @@ impl fmt::Display for Summary {
     }
 }
 
-impl fmt::Display for Verdict {
-    ghost output = { λ v. Some (verdict_text v) };
-
-    fn fmt<W: fmt::Write>(&self, f: &mut fmt::Formatter<W>) -> fmt::Result {
-        match *self {
-            Verdict::Accepted(summary) => write!(f, "accepted, {summary}"),
-            Verdict::Refused(refusal) => {
-                let fault = refusal.fault();
-                let cause = fault.cause;
-                let layer = fault.layer;
-                let place = fault.place;
-                let reason = sentence(refusal);
-                write!(
-                    f,
-                    "refused, cause {cause}, layer {layer}, place {place}: {reason}"
-                )
-            }
-        }
-    }
-}
-
 // The line of the account for a list: its two files, and what became of it.
 #[derive(Clone, Copy)]
 pub struct ListLine<'a> {
     pub header: &'a str,
     pub table: &'a str,
-    pub verdict: Verdict,
+    pub verdict: Outcome<Accepted<Summary>, Refusal>,
 }
 
 impl fmt::Display for ListLine<'_> {
-    ghost output = { λ l. Some (list_text l.header.now l.table.now l.verdict) };
+    ghost output = { λ l. Some (list_text l.header.now l.table.now l.verdict.0) };
 
     fn fmt<W: fmt::Write>(&self, f: &mut fmt::Formatter<W>) -> fmt::Result {
-        let header = self.header;
-        let table = self.table;
-        let verdict = self.verdict;
+        let ListLine {
+            header,
+            table,
+            verdict,
+        } = *self;
         write!(f, "list {header} {table}: {verdict}")
-    }
-}
-
-// The fixed sentence of the refusal's cause.
-pub fn sentence(refusal: Refusal) -> &'static str
-    ensures { result.now ≡ sentence_of (fault_of refusal).cause }
-{
-    match refusal {
-        Refusal::TextTooLong => "a text has more than 16,384 bytes",
-        Refusal::LineBroken(_) => "a line breaks its pattern or a range",
-        Refusal::LineMissing(_) | Refusal::LineExtra(_) | Refusal::TableDiffers => {
-            "a line is missing or stands past the declared count"
-        }
-        Refusal::WrongShape(_) => "a side of a rule has the wrong shape",
-        Refusal::WrongVariables(_) => "a variable stands twice on a side, or on the right alone",
-        Refusal::Overlap(_) => "a rule overlaps an earlier one",
-        Refusal::NoRule(_) => "a form has no rule",
-        Refusal::NoMemory => "there was no memory to read the list into",
     }
 }

@@ -10,6 +10,7 @@ mod number;
 mod panel;
 mod plan;
 mod print;
+mod refused;
 mod stretch;
 mod verdict;
 mod words;

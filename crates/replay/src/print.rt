@@ -1,7 +1,8 @@
 // Prints the account of a stretch, a line for each line of the job that asks for something.
-use crate::account::ListLine;
-use crate::panel::{Load, Refused, Step, Term};
+use crate::account::{Accepted, ListLine, Outcome};
+use crate::panel::Term;
 use crate::plan::Entry;
+use crate::refused::Refused;
 use crate::verdict::{Summary, decide};
 use languages::calls::Answer;
 use languages::refusal::Refusal;
@@ -34,7 +35,7 @@ fn print_list<'a>(
     let Some(table_text) = read_file(rt, number, table)? else {
         return Ok(());
     };
-    let verdict = decide(place, rt.alloc(), &header_text, &table_text);
+    let verdict = Outcome(decide(place, rt.alloc(), &header_text, &table_text).map(Accepted));
     rt.println(ListLine {
         header,
         table,
@@ -65,11 +66,11 @@ fn print_show(
 fn print_answer(rt: &HostRuntime, line: &str, answer: Answer) -> io::Result<()> {
     match answer {
         Answer::Load(answer) => {
-            let load = Load(answer);
+            let load = Outcome(answer.map(Accepted));
             println!(rt; "{line}: {load}")
         }
         Answer::Step(answer) => {
-            let step = Step(answer);
+            let step = Outcome(answer);
             println!(rt; "{line}: {step}")
         }
         Answer::Show(shown, buffer) => print_show(rt, line, shown, &buffer),

@@ -33,18 +33,15 @@ impl Summary {
     }
 }
 
-#[derive(Clone, Copy)]
-pub enum Verdict {
-    Accepted(Summary),
-    Refused(Refusal),
-}
-
 // Accepts the list of two texts into the place, or refuses it and leaves the place as it was.
-pub fn decide(place: &mut RuleList, heap: Global, header: &[u8], table: &[u8]) -> Verdict
+pub fn decide(
+    place: &mut RuleList,
+    heap: Global,
+    header: &[u8],
+    table: &[u8],
+) -> Result<Summary, Refusal>
     ensures { Judged header.now table.now place.old place.new result }
 {
-    match place.accept(heap, header, table) {
-        Ok(()) => Verdict::Accepted(Summary::of(place)),
-        Err(refusal) => Verdict::Refused(refusal),
-    }
+    place.accept(heap, header, table)?;
+    Ok(Summary::of(place))
 }
