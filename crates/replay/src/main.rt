@@ -15,25 +15,17 @@ mod stretch;
 mod verdict;
 mod words;
 
-use job::{core_of, read_lines, stretch_end};
-use lists::list::RuleList;
+use job::{core_of, read_lines};
+use print::Account;
 use std::io;
 use stretch::run_stretch;
 
 fn main(rt: HostRuntime) -> io::Result<()> {
     let lines = read_lines(&rt)?;
-    let mut place = RuleList::new(rt.alloc());
-    let mut start = 0;
-    while start < lines.len() {
-        let end = stretch_end(&lines, start);
-        run_stretch(
-            &rt,
-            &mut place,
-            core_of(&lines[start]),
-            start as u64,
-            &lines[start..end],
-        )?;
-        start = end;
+    let mut account = Account::new(&rt);
+    // A line that makes a machine begins a stretch of its own.
+    for stretch in lines.chunk_by(|_, line| core_of(line).is_none()) {
+        run_stretch(&mut account, stretch)?;
     }
     Ok(())
 }

@@ -1,10 +1,10 @@
 // Runs a stretch of a job: the lines of one machine, or those before the first.
+use crate::job::core_of;
 use crate::machine_command::Core;
 use crate::plan::plan_lines;
-use crate::print::print_entries;
+use crate::print::Account;
 use languages::language::Language;
 use languages::run::run;
-use lists::list::RuleList;
 use std::io;
 use steppers::logic::Logic;
 use steppers::machine::Machine;
@@ -12,55 +12,40 @@ use steppers::sequence::Sequence;
 use steppers::stepper::Stepper;
 
 // The lines before the first machine: their calls have no answers.
-fn run_without(
-    rt: &HostRuntime,
-    place: &mut RuleList,
-    before: u64,
-    lines: &[Vec<u8>],
-) -> io::Result<()> {
-    let heap = rt.alloc();
+fn run_without(account: &mut Account<'_>, lines: &[Vec<u8>]) -> io::Result<()> {
+    let heap = account.rt.alloc();
     let plan = plan_lines(heap, lines)?;
-    print_entries(rt, place, 0, before, plan.entries, Vec::new(heap))
+    account.print_entries(0, plan.entries, Vec::new(heap))
 }
 
 // All calls of the lines are one run of the language.
 fn run_with<L: Language + Drop>(
-    rt: &HostRuntime,
-    place: &mut RuleList,
+    account: &mut Account<'_>,
     mut language: L,
     capacity: usize,
-    before: u64,
     lines: &[Vec<u8>],
 ) -> io::Result<()> {
-    let heap = rt.alloc();
+    let heap = account.rt.alloc();
     let plan = plan_lines(heap, lines)?;
     let answers = run(heap, &mut language, plan.calls)?;
-    print_entries(rt, place, capacity, before, plan.entries, answers)
+    account.print_entries(capacity, plan.entries, answers)
 }
 
 // A new machine, which holds nothing, for the lines.
 fn run_machine<S: Stepper + Drop>(
-    rt: &HostRuntime,
-    place: &mut RuleList,
+    account: &mut Account<'_>,
     stepper: S,
-    before: u64,
     lines: &[Vec<u8>],
 ) -> io::Result<()> {
-    let machine = Machine::new(rt.alloc(), stepper)?;
-    run_with(rt, place, machine, S::most_words(), before, lines)
+    let machine = Machine::new(account.rt.alloc(), stepper)?;
+    run_with(account, machine, S::most_words(), lines)
 }
 
-// The lines of a stretch, `before` of which the job has so many lines; the core language is the one that the first names.
-pub fn run_stretch(
-    rt: &HostRuntime,
-    place: &mut RuleList,
-    core: Option<Core>,
-    before: u64,
-    lines: &[Vec<u8>],
-) -> io::Result<()> {
-    match core {
-        None => run_without(rt, place, before, lines),
-        Some(Core::Logic) => run_machine(rt, place, Logic, before, lines),
-        Some(Core::Sequence) => run_machine(rt, place, Sequence, before, lines),
+// The lines of a stretch: the first names the core language of its machine, or there is none yet.
+pub fn run_stretch(account: &mut Account<'_>, lines: &[Vec<u8>]) -> io::Result<()> {
+    match lines.first().and_then(|line| core_of(line)) {
+        None => run_without(account, lines),
+        Some(Core::Logic) => run_machine(account, Logic, lines),
+        Some(Core::Sequence) => run_machine(account, Sequence, lines),
     }
 }
