@@ -1,7 +1,9 @@
 // Pairs of texts that are too long to write out, and how they are built.
-use crate::case::Answer::{Accepted, Refused};
-use crate::case::{Answer, HEADER, TABLE};
+use crate::case::{Accepted, Answer, HEADER, Refused, TABLE};
 use std::alloc::{AllocError, Global};
+
+// The first label that layer 1 owns.
+const FIRST_LABEL: u32 = 64;
 
 // A text by its parts.
 #[derive(Clone, Copy)]
@@ -38,24 +40,34 @@ pub struct Built {
     pub answer: Answer,
 }
 
-fn forms_text(heap: Global, forms: u32, rules: u32, lines: u32) -> Result<String, AllocError> {
-    let mut text = format!(in heap; "head,1,{forms},{rules}\n")?;
+// A text and so many lines behind it.
+fn with_lines<F: Fn(u32) -> Result<String, AllocError>>(
+    mut text: String,
+    lines: u32,
+    line: F,
+) -> Result<String, AllocError>
+    requires { F.IsAlwaysCallable line }
+{
     for i in 0..lines {
-        let label = i.saturating_add(64);
-        let line = format!(in heap; "form,{label},0\n")?;
-        text.push_str(line.as_str())?;
+        text.push_str(line(i)?.as_str())?;
     }
     Ok(text)
 }
 
+fn forms_text(heap: Global, forms: u32, rules: u32, lines: u32) -> Result<String, AllocError> {
+    let head = format!(in heap; "head,1,{forms},{rules}\n")?;
+    with_lines(head, lines, |i| {
+        let label = i.saturating_add(FIRST_LABEL);
+        format!(in heap; "form,{label},0\n")
+    })
+}
+
 fn rules_text(heap: Global, rules: u32, lines: u32) -> Result<String, AllocError> {
-    let mut text = format!(in heap; "table,1,{rules}\n")?;
-    for i in 0..lines {
-        let label = i.saturating_add(64);
-        let line = format!(in heap; "rule,{i},1,1,{label},0,38,0\n")?;
-        text.push_str(line.as_str())?;
-    }
-    Ok(text)
+    let head = format!(in heap; "table,1,{rules}\n")?;
+    with_lines(head, lines, |i| {
+        let label = i.saturating_add(FIRST_LABEL);
+        format!(in heap; "rule,{i},1,1,{label},0,38,0\n")
+    })
 }
 
 fn deep_text(heap: Global, words: u32) -> Result<String, AllocError> {
@@ -75,9 +87,7 @@ fn bytes_of(heap: Global, text: &[u8]) -> Result<Vec<u8>, AllocError> {
 
 fn filled(heap: Global, front: &[u8], size: usize) -> Result<Vec<u8>, AllocError> {
     let mut bytes = bytes_of(heap, front)?;
-    for _ in front.len()..size {
-        bytes.push(b'0')?;
-    }
+    bytes.resize(size.max(front.len()), b'0')?;
     Ok(bytes)
 }
 
@@ -115,7 +125,7 @@ pub const LISTS: &[Built] = &[
             lines: 32,
             last: b"",
         },
-        answer: Accepted(1, 32, 32),
+        answer: Ok(Accepted(1, 32, 32)),
     },
     Built {
         name: "31 lines for 32 forms",
@@ -129,7 +139,7 @@ pub const LISTS: &[Built] = &[
             lines: 32,
             last: b"",
         },
-        answer: Refused(12, 33),
+        answer: Err(Refused(12, 33)),
     },
     Built {
         name: "33 lines for 32 forms",
@@ -143,7 +153,7 @@ pub const LISTS: &[Built] = &[
             lines: 32,
             last: b"",
         },
-        answer: Refused(12, 34),
+        answer: Err(Refused(12, 34)),
     },
     Built {
         name: "33 forms with their lines",
@@ -157,7 +167,7 @@ pub const LISTS: &[Built] = &[
             lines: 32,
             last: b"",
         },
-        answer: Refused(11, 1),
+        answer: Err(Refused(11, 1)),
     },
     Built {
         name: "31 lines for 32 rules",
@@ -171,7 +181,7 @@ pub const LISTS: &[Built] = &[
             lines: 31,
             last: b"",
         },
-        answer: Refused(12, 1033),
+        answer: Err(Refused(12, 1033)),
     },
     Built {
         name: "33 lines for 32 rules",
@@ -185,7 +195,7 @@ pub const LISTS: &[Built] = &[
             lines: 33,
             last: b"",
         },
-        answer: Refused(12, 1034),
+        answer: Err(Refused(12, 1034)),
     },
     Built {
         name: "the last of 32 rules broken",
@@ -199,7 +209,7 @@ pub const LISTS: &[Built] = &[
             lines: 31,
             last: b"rule,31\n",
         },
-        answer: Refused(11, 1033),
+        answer: Err(Refused(11, 1033)),
     },
     Built {
         name: "the last of 32 forms without a rule",
@@ -213,7 +223,7 @@ pub const LISTS: &[Built] = &[
             lines: 31,
             last: b"",
         },
-        answer: Refused(16, 33),
+        answer: Err(Refused(16, 33)),
     },
     Built {
         name: "the shape of the twelfth rule",
@@ -227,7 +237,7 @@ pub const LISTS: &[Built] = &[
             lines: 11,
             last: b"rule,11,1,1,75,0,0,0\n",
         },
-        answer: Refused(13, 1013),
+        answer: Err(Refused(13, 1013)),
     },
     Built {
         name: "the variables of the twelfth rule",
@@ -241,7 +251,7 @@ pub const LISTS: &[Built] = &[
             lines: 11,
             last: b"rule,11,1,2,75,0,33,1,2,0\n",
         },
-        answer: Refused(14, 1013),
+        answer: Err(Refused(14, 1013)),
     },
     Built {
         name: "the twelfth rule overlaps the first",
@@ -255,7 +265,7 @@ pub const LISTS: &[Built] = &[
             lines: 11,
             last: b"rule,11,1,1,64,0,38,0\n",
         },
-        answer: Refused(15, 1013),
+        answer: Err(Refused(15, 1013)),
     },
     Built {
         name: "the twelfth form without a rule",
@@ -269,7 +279,7 @@ pub const LISTS: &[Built] = &[
             lines: 11,
             last: b"",
         },
-        answer: Refused(16, 13),
+        answer: Err(Refused(16, 13)),
     },
 ];
 
@@ -279,13 +289,13 @@ pub const LENGTHS: &[Built] = &[
         name: "64 right words",
         header: Text::Plain(HEADER),
         table: Text::Deep { words: 64 },
-        answer: Accepted(1, 1, 1),
+        answer: Ok(Accepted(1, 1, 1)),
     },
     Built {
         name: "65 right words",
         header: Text::Plain(HEADER),
         table: Text::Deep { words: 65 },
-        answer: Refused(11, 1002),
+        answer: Err(Refused(11, 1002)),
     },
     Built {
         name: "a header of 16,384 bytes",
@@ -294,7 +304,7 @@ pub const LENGTHS: &[Built] = &[
             size: 16_384,
         },
         table: Text::Plain(TABLE),
-        answer: Refused(12, 3),
+        answer: Err(Refused(12, 3)),
     },
     Built {
         name: "a header of 16,385 bytes",
@@ -303,7 +313,7 @@ pub const LENGTHS: &[Built] = &[
             size: 16_385,
         },
         table: Text::Plain(TABLE),
-        answer: Refused(10, 0),
+        answer: Err(Refused(10, 0)),
     },
     Built {
         name: "a table of 16,384 bytes",
@@ -312,7 +322,7 @@ pub const LENGTHS: &[Built] = &[
             front: TABLE,
             size: 16_384,
         },
-        answer: Refused(12, 1003),
+        answer: Err(Refused(12, 1003)),
     },
     Built {
         name: "a table of 16,385 bytes",
@@ -321,7 +331,7 @@ pub const LENGTHS: &[Built] = &[
             front: TABLE,
             size: 16_385,
         },
-        answer: Refused(10, 0),
+        answer: Err(Refused(10, 0)),
     },
     Built {
         name: "a line of 16,384 bytes",
@@ -330,7 +340,7 @@ pub const LENGTHS: &[Built] = &[
             size: 16_384,
         },
         table: Text::Plain(TABLE),
-        answer: Refused(11, 1),
+        answer: Err(Refused(11, 1)),
     },
     Built {
         name: "both texts too long",
@@ -342,7 +352,7 @@ pub const LENGTHS: &[Built] = &[
             front: TABLE,
             size: 20_000,
         },
-        answer: Refused(10, 0),
+        answer: Err(Refused(10, 0)),
     },
     Built {
         name: "a header too long and no table",
@@ -351,7 +361,7 @@ pub const LENGTHS: &[Built] = &[
             size: 16_385,
         },
         table: Text::Plain(b""),
-        answer: Refused(10, 0),
+        answer: Err(Refused(10, 0)),
     },
     Built {
         name: "a broken header and a table too long",
@@ -360,6 +370,6 @@ pub const LENGTHS: &[Built] = &[
             front: TABLE,
             size: 16_385,
         },
-        answer: Refused(10, 0),
+        answer: Err(Refused(10, 0)),
     },
 ];

@@ -1,32 +1,38 @@
 // A pair of texts with the answer that the rules give, and the list that most pairs vary.
 use std::fmt;
 
-// What acceptance answers.
+// The layer, how many forms, how many rules.
 #[derive(Clone, Copy, PartialEq, Eq)]
-pub enum Answer {
-    // the layer, how many forms, how many rules
-    Accepted(u32, usize, usize),
-    // the cause and the place
-    Refused(u32, u64),
-}
+pub struct Accepted(pub u32, pub usize, pub usize);
 
-impl fmt::Display for Answer {
+// The cause and the place.
+#[derive(Clone, Copy, PartialEq, Eq)]
+pub struct Refused(pub u32, pub u64);
+
+// What acceptance answers.
+pub type Answer = Result<Accepted, Refused>;
+
+// An answer as it is printed.
+#[derive(Clone, Copy)]
+pub struct Told(pub Answer);
+
+impl fmt::Display for Told {
     fn fmt<W: fmt::Write>(&self, f: &mut fmt::Formatter<W>) -> fmt::Result {
-        match *self {
-            Answer::Accepted(layer, forms, rules) => write!(
+        match self.0 {
+            Ok(Accepted(layer, forms, rules)) => write!(
                 f,
                 "accepted, layer {layer}, forms {forms}, rules {rules}"
             ),
-            Answer::Refused(cause, place) => write!(f, "refused, cause {cause}, place {place}"),
+            Err(Refused(cause, place)) => write!(f, "refused, cause {cause}, place {place}"),
         }
     }
 }
 
 #[derive(Clone, Copy)]
-pub struct Case {
-    pub name: &'static str,
-    pub header: &'static [u8],
-    pub table: &'static [u8],
+pub struct Case<'a> {
+    pub name: &'a str,
+    pub header: &'a [u8],
+    pub table: &'a [u8],
     pub answer: Answer,
 }
 

@@ -17,36 +17,40 @@ use case::Case;
 use runner::Runner;
 use std::io;
 
-fn run_cases(rt: &HostRuntime, runner: &mut Runner, cases: &[Case]) -> io::Result<()> {
+fn run_cases(runner: &mut Runner<'_>, cases: &[Case<'_>]) -> io::Result<()> {
     for case in cases {
-        runner.run(rt, case.name, case.header, case.table, case.answer)?;
+        runner.run(case)?;
     }
     Ok(())
 }
 
-fn run_built(rt: &HostRuntime, runner: &mut Runner, cases: &[Built]) -> io::Result<()> {
+fn run_built(runner: &mut Runner<'_>, cases: &[Built]) -> io::Result<()> {
     for case in cases {
-        let header = case.header.build(rt.alloc())?;
-        let table = case.table.build(rt.alloc())?;
-        runner.run(rt, case.name, &header, &table, case.answer)?;
+        let header = case.header.build(runner.rt.alloc())?;
+        let table = case.table.build(runner.rt.alloc())?;
+        runner.run(&Case {
+            name: case.name,
+            header: &header,
+            table: &table,
+            answer: case.answer,
+        })?;
     }
     Ok(())
 }
 
 fn main(rt: HostRuntime) -> io::Result<()> {
-    let mut runner = Runner::new(rt.alloc());
-    run_cases(&rt, &mut runner, lines::CASES)?;
-    run_cases(&rt, &mut runner, fields::CASES)?;
-    run_cases(&rt, &mut runner, forms::CASES)?;
-    run_cases(&rt, &mut runner, rules::CASES)?;
-    run_cases(&rt, &mut runner, sides::LEFT)?;
-    run_cases(&rt, &mut runner, sides::RIGHT)?;
-    run_cases(&rt, &mut runner, sides::VARIABLES)?;
-    run_cases(&rt, &mut runner, orders::FIRST)?;
-    run_cases(&rt, &mut runner, orders::RULES)?;
-    run_built(&rt, &mut runner, built::LISTS)?;
-    run_built(&rt, &mut runner, built::LENGTHS)?;
-    let cases = runner.cases;
-    let differ = runner.differ;
-    println!(rt; "{cases} cases, {differ} differ")
+    let mut runner = Runner::new(&rt);
+    run_cases(&mut runner, lines::CASES)?;
+    run_cases(&mut runner, fields::CASES)?;
+    run_cases(&mut runner, forms::CASES)?;
+    run_cases(&mut runner, rules::CASES)?;
+    run_cases(&mut runner, sides::LEFT)?;
+    run_cases(&mut runner, sides::RIGHT)?;
+    run_cases(&mut runner, sides::VARIABLES)?;
+    run_cases(&mut runner, orders::FIRST)?;
+    run_cases(&mut runner, orders::RULES)?;
+    run_built(&mut runner, built::LISTS)?;
+    run_built(&mut runner, built::LENGTHS)?;
+    let tally = runner.tally;
+    println!(rt; "{tally}")
 }

@@ -1,39 +1,34 @@
 // Runs cases one after the other on one place for a list, and counts the answers that differ.
-use crate::case::Answer;
+use crate::case::{Accepted, Answer, Case, Refused, Told};
 use lists::list::RuleList;
 use lists::parts::Rule;
 use std::alloc::Global;
 use std::io;
+use tally::Tally;
 
 #[derive(Drop)]
-pub struct Runner {
+pub struct Runner<'a> {
+    pub rt: &'a HostRuntime,
     place: RuleList,
     // the last accepted list, read into a new place
     accepted: RuleList,
-    pub cases: u32,
-    pub differ: u32,
+    pub tally: Tally,
 }
 
-fn answer(place: &mut RuleList, heap: Global, header: &[u8], table: &[u8]) -> Answer {
-    match place.accept(heap, header, table) {
-        Ok(()) => Answer::Accepted(place.layer(), place.forms().len(), place.rules().len()),
+fn answer(place: &mut RuleList, heap: Global, case: &Case<'_>) -> Answer {
+    match place.accept(heap, case.header, case.table) {
+        Ok(()) => Ok(Accepted(place.layer(), place.forms().len(), place.rules().len())),
         Err(refusal) => {
             let fault = refusal.fault();
-            Answer::Refused(fault.cause, fault.place)
+            Err(Refused(fault.cause, fault.place))
         }
     }
 }
 
 fn same_rules(these: &[Rule], those: &[Rule]) -> bool {
-    if these.len() != those.len() {
-        return false;
-    }
-    for (this, that) in these.iter().zip(those.iter()) {
-        if this.left != that.left || this.right != that.right {
-            return false;
-        }
-    }
-    true
+    these.len() == those.len()
+        && these.iter().zip(those).all(|(this, that)| this.left == that.left
+            && this.right == that.right)
 }
 
 fn same_lists(this: &RuleList, that: &RuleList) -> bool {
@@ -42,13 +37,13 @@ fn same_lists(this: &RuleList, that: &RuleList) -> bool {
         && same_rules(this.rules(), that.rules())
 }
 
-impl Runner {
-    pub fn new(heap: Global) -> Runner {
+impl<'a> Runner<'a> {
+    pub fn new(rt: &'a HostRuntime) -> Runner<'a> {
         Runner {
-            place: RuleList::new(heap),
-            accepted: RuleList::new(heap),
-            cases: 0,
-            differ: 0,
+            rt,
+            place: RuleList::new(rt.alloc()),
+            accepted: RuleList::new(rt.alloc()),
+            tally: Tally::default(),
         }
     }
 
@@ -58,29 +53,24 @@ impl Runner {
     }
 
     // Runs a case, and prints a line if its answer is another than expected, or if the place does not hold the last accepted list behind it.
-    pub fn run(
-        &mut self,
-        rt: &HostRuntime,
-        name: &str,
-        header: &[u8],
-        table: &[u8],
-        expected: Answer,
-    ) -> io::Result<()> {
-        let heap = rt.alloc();
-        self.cases = self.cases.saturating_add(1);
-        let found = answer(&mut self.place, heap, header, table);
-        if let Answer::Accepted(..) = found {
+    pub fn run(&mut self, case: &Case<'_>) -> io::Result<()> {
+        let heap = self.rt.alloc();
+        let name = case.name;
+        let found = answer(&mut self.place, heap, case);
+        if found.is_ok() {
             self.accepted = RuleList::new(heap);
-            let _ = self.accepted.accept(heap, header, table);
+            let _ = self.accepted.accept(heap, case.header, case.table);
         }
-        if found != expected {
-            self.differ = self.differ.saturating_add(1);
-            return println!(rt; "{name}: expected {expected}, found {found}");
+        let held = self.is_held();
+        self.tally.count(found == case.answer && held);
+        if found != case.answer {
+            let expected = Told(case.answer);
+            let found = Told(found);
+            println!(self.rt; "{name}: expected {expected}, found {found}")
+        } else if !held {
+            println!(self.rt; "{name}: the place does not hold the last accepted list")
+        } else {
+            Ok(())
         }
-        if !self.is_held() {
-            self.differ = self.differ.saturating_add(1);
-            return println!(rt; "{name}: the place does not hold the last accepted list");
-        }
-        Ok(())
     }
 }
