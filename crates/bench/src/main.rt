@@ -3,47 +3,42 @@
 #![tactic(auto)]
 
 mod list_texts;
+mod rounds;
 mod runs;
 mod steps;
 
 use lists::list::RuleList;
+use rounds::{Timed, time_rounds};
 use std::io;
-use std::time::{Duration, Instant};
 use terms::front::end;
 
 const ACCEPTANCES: u32 = 5_000;
 
 const SEARCHES: u32 = 200_000;
 
-// How many rounds a second.
-fn rate(rounds: u32, time: Duration) -> u128 {
-    u128::from(rounds) * 1_000_000_000 / time.as_nanos().max(1)
-}
-
 // How long the end finder takes on the words, in all its rounds. Each round has another last word, so that none is left out.
-fn time_end(rt: &HostRuntime, words: &mut Vec<u32>) -> io::Result<Duration> {
-    let start = Instant::now(rt)?;
+fn time_end(rt: &HostRuntime, words: &mut Vec<u32>) -> io::Result<Timed> {
     let mut found: usize = 0;
-    for i in 0..SEARCHES {
+    let mut last: u32 = 0;
+    let timed = time_rounds(rt, SEARCHES, || {
         if let Some(word) = words.last_mut() {
-            *word = i;
+            *word = last;
         }
-        if let Ok(place) = end(words) {
-            found = found.wrapping_add(place);
-        }
-    }
-    let time = start.elapsed(rt)?;
+        last = last.wrapping_add(1);
+        let ended = end(words);
+        found = found.wrapping_add(ended.unwrap_or(0));
+        ended.is_ok()
+    })?;
     let all = words.len().wrapping_mul(SEARCHES as usize);
     if found != all {
         println!(rt; "the end finder found {found} words in all, and not {all}")?;
     }
-    Ok(time)
+    Ok(timed)
 }
 
 fn measure_end(rt: &HostRuntime, kind: &str, words: &mut Vec<u32>) -> io::Result<()> {
-    let time = time_end(rt, words)?;
+    let nanos = time_end(rt, words)?.nanos();
     let size = words.len();
-    let nanos = time.as_nanos() / u128::from(SEARCHES);
     println!(rt;
         "the end finder on {size} words, {kind}: {nanos} ns a search ({SEARCHES} searches)"
     )
@@ -54,17 +49,13 @@ fn measure_accept(rt: &HostRuntime) -> io::Result<()> {
     let header = list_texts::HEADER.as_bytes();
     let table = list_texts::table(heap)?;
     let mut place = RuleList::new(heap);
-    let mut accepted: u32 = 0;
-    let start = Instant::now(rt)?;
-    for _ in 0..ACCEPTANCES {
-        if place.accept(heap, header, table.as_bytes()).is_ok() {
-            accepted = accepted.saturating_add(1);
-        }
-    }
-    let time = start.elapsed(rt)?;
+    let timed = time_rounds(rt, ACCEPTANCES, || {
+        place.accept(heap, header, table.as_bytes()).is_ok()
+    })?;
     let rules = place.rules().len();
     let size = table.len();
-    let rate = rate(ACCEPTANCES, time);
+    let rate = timed.rate();
+    let accepted = timed.done;
     println!(rt;
         "a list of {rules} rules of 9 left and 64 right words, table of {size} bytes: accepted {rate} times a second"
     )?;

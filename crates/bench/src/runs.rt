@@ -7,19 +7,17 @@ const UNARY: u32 = 17 * 16_777_216 + 1;
 
 const FORM: u32 = 32 * 16_777_216;
 
-fn push_atoms(words: &mut Vec<u32>, count: u32) -> Result<(), AllocError> {
-    for _ in 0..count {
-        words.push(ATOM)?;
-    }
-    Ok(())
+// The word, so many times.
+pub fn push_many(words: &mut Vec<u32>, word: u32, count: usize) -> Result<(), AllocError> {
+    words.resize(words.len().saturating_add(count), word)
 }
 
 // 9 + leaves words: a form over a form with so many atoms, and seven atoms.
 fn push_small(words: &mut Vec<u32>, leaves: u8) -> Result<(), AllocError> {
     words.push(FORM + 8)?;
     words.push(FORM + u32::from(leaves))?;
-    push_atoms(words, u32::from(leaves))?;
-    push_atoms(words, 7)
+    push_many(words, ATOM, usize::from(leaves))?;
+    push_many(words, ATOM, 7)
 }
 
 // 122 + leaves words: a form over eight such parts, the last with so many leaves.
@@ -48,13 +46,11 @@ pub fn deep(heap: Global) -> Result<Vec<u32>, AllocError> {
     words.push(FORM + 8)?;
     for _ in 0..2 {
         words.push(FORM + 8)?;
-        push_atoms(&mut words, 8)?;
+        push_many(&mut words, ATOM, 8)?;
     }
     words.push(UNARY)?;
-    push_atoms(&mut words, 5)?;
-    for _ in 0..998 {
-        words.push(UNARY)?;
-    }
+    push_many(&mut words, ATOM, 5)?;
+    push_many(&mut words, UNARY, 998)?;
     words.push(ATOM)?;
     Ok(words)
 }

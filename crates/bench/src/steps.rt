@@ -1,8 +1,9 @@
 // Times steps of terms of 1,024 words.
+use crate::rounds::time_rounds;
+use crate::runs::push_many;
 use languages::language::Language;
 use std::alloc::{AllocError, Global};
 use std::io;
-use std::time::Instant;
 use steppers::machine::Machine;
 use steppers::sequence::Sequence;
 
@@ -15,19 +16,15 @@ const AWAIT: u32 = 35 * 16_777_216 + 1;
 const NOP: u32 = 38 * 16_777_216;
 
 // How many SEQs stand around a wait in a term of 1,024 words.
-const LEVELS: u32 = 511;
+const LEVELS: usize = 511;
 
 // SEQ(SEQ(.. SEQ(AWAIT 0, NOP) .., NOP), NOP).
 fn nested(heap: Global) -> Result<Vec<u32>, AllocError> {
     let mut words = Vec::new(heap);
-    for _ in 0..LEVELS {
-        words.push(SEQ)?;
-    }
+    push_many(&mut words, SEQ, LEVELS)?;
     words.push(AWAIT)?;
     words.push(0)?;
-    for _ in 0..LEVELS {
-        words.push(NOP)?;
-    }
+    push_many(&mut words, NOP, LEVELS)?;
     Ok(words)
 }
 
@@ -37,14 +34,9 @@ fn measure_waits(rt: &HostRuntime, words: &[u32]) -> io::Result<()> {
     if machine.load(words).is_err() {
         return println!(rt; "the term does not load");
     }
-    let start = Instant::now(rt)?;
-    let mut waited: u32 = 0;
-    for _ in 0..STEPS {
-        if machine.step(0).is_ok() {
-            waited = waited.saturating_add(1);
-        }
-    }
-    let nanos = start.elapsed(rt)?.as_nanos() / u128::from(STEPS);
+    let timed = time_rounds(rt, STEPS, || machine.step(0).is_ok())?;
+    let nanos = timed.nanos();
+    let waited = timed.done;
     println!(rt;
         "a step that waits, {LEVELS} levels deep in 1,024 words: {nanos} ns ({waited} steps)"
     )
@@ -53,14 +45,11 @@ fn measure_waits(rt: &HostRuntime, words: &[u32]) -> io::Result<()> {
 // A load, and the step that writes the next term.
 fn measure_moves(rt: &HostRuntime, words: &[u32]) -> io::Result<()> {
     let mut machine = Machine::new(rt.alloc(), Sequence)?;
-    let start = Instant::now(rt)?;
-    let mut moved: u32 = 0;
-    for _ in 0..STEPS {
-        if machine.load(words).is_ok() && machine.step(1).is_ok() {
-            moved = moved.saturating_add(1);
-        }
-    }
-    let nanos = start.elapsed(rt)?.as_nanos() / u128::from(STEPS);
+    let timed = time_rounds(rt, STEPS, || {
+        machine.load(words).is_ok() && machine.step(1).is_ok()
+    })?;
+    let nanos = timed.nanos();
+    let moved = timed.done;
     println!(rt;
         "a load of 1,024 words and a step that moves, {LEVELS} levels deep: {nanos} ns ({moved} times)"
     )

@@ -6,28 +6,44 @@ mod case;
 mod loads;
 mod logic;
 mod long;
-mod runner;
 mod sequence;
+mod trial;
 mod words;
 
-use runner::{Tally, run_loads, run_steps};
 use std::io;
 use steppers::logic::Logic;
 use steppers::machine::Machine;
 use steppers::sequence::Sequence;
+use tally::Tally;
+use trial::Trial;
+
+fn run_logic(rt: &HostRuntime, tally: Tally) -> io::Result<Tally> {
+    let mut trial = Trial {
+        rt,
+        language: Machine::new(rt.alloc(), Logic)?,
+        tally,
+    };
+    trial.run_new()?;
+    trial.run_steps(logic::CASES)?;
+    trial.run_loads("17:1 0:1", loads::LOGIC)?;
+    Ok(trial.tally)
+}
+
+fn run_sequence(rt: &HostRuntime, tally: Tally) -> io::Result<Tally> {
+    let mut trial = Trial {
+        rt,
+        language: Machine::new(rt.alloc(), Sequence)?,
+        tally,
+    };
+    trial.run_new()?;
+    trial.run_steps(sequence::CASES)?;
+    trial.run_loads("33:1 0:1", loads::SEQUENCE)?;
+    trial.run_long()?;
+    Ok(trial.tally)
+}
 
 fn main(rt: HostRuntime) -> io::Result<()> {
-    let mut tally = Tally::new();
-    let mut machine = Machine::new(rt.alloc(), Logic)?;
-    long::new_machine(&rt, &mut tally, &mut machine)?;
-    run_steps(&rt, &mut tally, &mut machine, logic::CASES)?;
-    run_loads(&rt, &mut tally, &mut machine, "17:1 0:1", loads::LOGIC)?;
-    let mut machine = Machine::new(rt.alloc(), Sequence)?;
-    long::new_machine(&rt, &mut tally, &mut machine)?;
-    run_steps(&rt, &mut tally, &mut machine, sequence::CASES)?;
-    run_loads(&rt, &mut tally, &mut machine, "33:1 0:1", loads::SEQUENCE)?;
-    long::run_long(&rt, &mut tally, &mut machine)?;
-    let cases = tally.cases;
-    let differ = tally.differ;
-    println!(rt; "{cases} cases, {differ} differ")
+    let tally = run_logic(&rt, Tally::default())?;
+    let tally = run_sequence(&rt, tally)?;
+    println!(rt; "{tally}")
 }
