@@ -47,7 +47,7 @@ fn run_machine<S: Stepper + Drop>(
     lines: &[Vec<u8>],
 ) -> io::Result<()> {
     let machine = Machine::new(rt.alloc(), stepper)?;
-    run_with(rt, place, machine, S::most_words(), before, lines)
+    run_with(rt, place, machine, S::CAPACITY, before, lines)
 }
 
 // The lines of a stretch, `before` of which the job has so many lines; the core language is the one that the first names.

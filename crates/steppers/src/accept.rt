@@ -48,10 +48,10 @@ fn lacking<S: Stepper>(words: &[u32]) -> Option<usize>
 pub(crate) fn admit<S: Stepper>(words: &[u32]) -> Result<(), Refusal>
     ensures { Admitted S.Stepper.table words.now result }
 {
-    if words.len() > S::most_words() {
+    if words.len() > S::CAPACITY {
         return Err(Refusal::TooLong {
             layer: STEPPER,
-            most: S::most_words(),
+            most: S::CAPACITY,
         });
     }
     if let Err(broken) = whole(words) {

@@ -1,5 +1,5 @@
 // The logic language.
-ghost use Rattle.std.specs.Prelude.{◌≡◌, ◌≤◌};
+ghost use Rattle.std.specs.Prelude.{◌≡◌, ◌≤◌, refl};
 ghost use Rattle.steppers.specs.Logic.{bit, gives, reads, negates, chooses, adds, logic_table};
 ghost use Rattle.std.proofs.Common.{rules};
 
@@ -84,13 +84,13 @@ pub struct Logic;
 impl Stepper for Logic {
     const CAPACITY: usize = 1024;
 
+    ghost CAPACITY = { 1024 };
+
     ghost table = { logic_table };
 
-    ghost sound = { Prim.search rules };
+    ghost same_capacity = { refl };
 
-    fn most_words() -> usize {
-        Self::CAPACITY
-    }
+    ghost sound = { Prim.search rules };
 
     fn has_form(label: u32, count: u32) -> bool {
         matches!((label, count), (IN, 1) | (NOT, 1) | (IF, 3) | (ADD, 2))

@@ -112,12 +112,12 @@ impl<S: Stepper + Drop> Language for Machine<S> {
         let spot = find::<S>(&self.term, inputs);
         match spot.action {
             Action::Replace { effect, by } => {
-                let fits = rewrite(&mut self.next, &self.term, spot, by, S::most_words());
+                let fits = rewrite(&mut self.next, &self.term, spot, by, S::CAPACITY);
                 settle(fits, &mut self.term, &mut self.next);
                 Ok(moved_if(fits, effect))
             }
             // the next term is the term itself
-            Action::Wait => Ok(moved_if(self.term.len() <= S::most_words(), 0)),
+            Action::Wait => Ok(moved_if(self.term.len() <= S::CAPACITY, 0)),
             Action::Child(_) | Action::Stuck => Ok(Stepped::Stuck),
         }
     }

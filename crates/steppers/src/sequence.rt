@@ -1,5 +1,5 @@
 // The sequence language.
-ghost use Rattle.std.specs.Prelude.{◌≡◌, ◌≤◌, Some, None};
+ghost use Rattle.std.specs.Prelude.{◌≡◌, ◌≤◌, Some, None, refl};
 ghost use Rattle.steppers.specs.Sequence.{is_nop, nop_with, channel_of, goes_on, switches, awaits, repeats, sequence_table};
 ghost use Rattle.steppers.specs.SequenceLaws.{sequence_sound};
 
@@ -123,13 +123,13 @@ pub struct Sequence;
 impl Stepper for Sequence {
     const CAPACITY: usize = 1024;
 
+    ghost CAPACITY = { 1024 };
+
     ghost table = { sequence_table };
 
-    ghost sound = { sequence_sound };
+    ghost same_capacity = { refl };
 
-    fn most_words() -> usize {
-        Self::CAPACITY
-    }
+    ghost sound = { sequence_sound };
 
     fn has_form(label: u32, count: u32) -> bool {
         matches!(

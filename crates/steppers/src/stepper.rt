@@ -1,5 +1,5 @@
 // The trait of a stepper: its capacity, its forms, and its step table.
-ghost use Rattle.std.specs.Prelude.{◌≡◌};
+ghost use Rattle.std.specs.Prelude.{◌≡◌, ℕ};
 ghost use Rattle.steppers.specs.Table.{Table, Sound, ActsAt};
 
 use crate::action::{Action, Seen};
@@ -8,12 +8,10 @@ pub trait Stepper {
     // How many words the stepper can hold, 1 to 1,024.
     const CAPACITY: usize;
 
+    ghost CAPACITY: { ℕ };
+
     // The same capacity, the forms and the step table, as definitions.
     ghost table: { Table };
-
-    // The capacity. A proof over any stepper learns nothing of the constant itself, and reads it here.
-    fn most_words() -> usize
-        ensures { result ≡ table.capacity };
 
     // Whether the stepper has the form with this count of children.
     fn has_form(label: u32, count: u32) -> bool
@@ -26,6 +24,8 @@ pub trait Stepper {
     // What a step does at a form; the words begin with it.
     fn act(label: u32, node: &[u32], inputs: u32) -> Action
         ensures { ActsAt table.acts label node.now inputs result };
+
+    ghost same_capacity: { table.capacity ≡ CAPACITY };
 
     ghost sound: { Sound table };
 }
