@@ -4,8 +4,9 @@ ghost use Rattle.terms.specs.Words.{node_of};
 ghost use Rattle.steppers.specs.Written.{passed_by, LacksAt, Admitted};
 
 use crate::stepper::Stepper;
+use crate::walk::first_stop;
 use languages::refusal::Refusal;
-use terms::front::{skip, whole};
+use terms::front::whole;
 use terms::words::{Node, decode};
 
 const STEPPER: u32 = 0;
@@ -25,17 +26,7 @@ fn passed_by<S: Stepper>(word: u32) -> Option<usize>
 fn lacking<S: Stepper>(words: &[u32]) -> Option<usize>
     ensures { LacksAt S.Stepper.table.has words.now result }
 {
-    let mut at = 0;
-    while at < words.len() {
-        let Some(dropped) = passed_by::<S>(words[at]) else {
-            return Some(at);
-        };
-        let Ok(size) = skip(&words[at + 1..], dropped) else {
-            return None;
-        };
-        at += 1 + size;
-    }
-    None
+    first_stop(words, |word| passed_by::<S>(word))
 }
 
 // Admits the words of a term that the stepper can hold.
