@@ -7,6 +7,7 @@ ghost use Rattle.replay.specs.Panel.{call_sentence, load_text, step_text, word_t
 use languages::answers::{Loaded, Stepped};
 use languages::refusal::Refusal;
 use std::fmt;
+use terms::fault::Fault;
 use terms::words::LABEL_UNIT;
 
 // The fixed sentence of the refusal's cause.
@@ -34,7 +35,7 @@ impl fmt::Display for Refused {
     ghost output = { λ x. Some (refusal_text x.0) };
 
     fn fmt<W: fmt::Write>(&self, f: &mut fmt::Formatter<W>) -> fmt::Result {
-        let fault = self.0.fault();
+        let fault = Fault::from(self.0);
         let cause = fault.cause;
         let layer = fault.layer;
         let place = fault.place;

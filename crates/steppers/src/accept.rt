@@ -5,11 +5,9 @@ ghost use Rattle.steppers.specs.Written.{passed_by, LacksAt, Admitted};
 
 use crate::stepper::Stepper;
 use crate::walk::first_stop;
-use languages::refusal::Refusal;
+use languages::refusal::{Refusal, STEPPER};
 use terms::front::whole;
 use terms::words::{Node, decode};
-
-const STEPPER: u32 = 0;
 
 // How many dropped terms to pass over behind a node; none at a form that the stepper lacks.
 fn passed_by<S: Stepper>(word: u32) -> Option<usize>

@@ -7,5 +7,5 @@ pub returns-clause-writes : goal.returns-clause-writes
 returns-clause-writes g c plain ok =
     subst
     (λ (l : List ℕ). HasWritten g.W.Write.write_str_gives c.args.f.now l c.write.new.self)
-    (refused_call _ _ _ c.fault-fault.ensures c.reason-because.ensures)
+    (refused_call _ _ _ c.from-fault.ensures c.reason-because.ensures)
     (c.write.ensures.writes plain ok)
