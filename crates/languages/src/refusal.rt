@@ -43,15 +43,15 @@ const NO_SUCH_FORM: u32 = 26;
 const NOTHING_HELD: u32 = 30;
 
 const SHORT_BUFFER: u32 = 31;
-// The layer that a stepper's own refusals name.
-const STEPPER: u32 = 0;
+// The layer of a stepper, below all lists.
+pub const STEPPER: u32 = 0;
 
-impl Refusal {
-    // The refusal's cause, layer and place.
-    pub fn fault(self) -> Fault
-        ensures { result ≡ fault_of self }
-    {
-        let (cause, layer, place) = match self {
+// The refusal's cause, layer and place.
+impl From<Refusal> for Fault {
+    ghost from_gives = { λ refusal fault. fault ≡ fault_of refusal };
+
+    fn from(refusal: Refusal) -> Fault {
+        let (cause, layer, place) = match refusal {
             Refusal::NotAbove { layer } => (NOT_ABOVE, layer, 0),
             Refusal::TooLong { layer, most } => (TOO_LONG, layer, most),
             Refusal::NoTerm { layer, place } => (NO_TERM, layer, place),

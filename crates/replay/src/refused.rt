@@ -57,7 +57,7 @@ impl Explained for CallRefusal {
     ghost sentence = { λ r. call_sentence (of_calls.fault_of r).cause };
 
     fn fault(self) -> Fault {
-        CallRefusal::fault(self)
+        Fault::from(self)
     }
 
     fn sentence(self) -> &'static str {

@@ -38,7 +38,7 @@ fn run_machine<S: Stepper + Drop>(
     lines: &[Vec<u8>],
 ) -> io::Result<()> {
     let machine = Machine::new(account.rt.alloc(), stepper)?;
-    run_with(account, machine, S::most_words(), lines)
+    run_with(account, machine, S::CAPACITY, lines)
 }
 
 // The lines of a stretch: the first names the core language of its machine, or there is none yet.

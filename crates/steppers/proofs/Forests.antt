@@ -8,7 +8,8 @@ use Rattle.terms.specs.Trees.{Tree, Trees, atom, variable, body, head, form, non
 use Rattle.terms.specs.Fronts.{ending}
 use Rattle.terms.proofs.Shapes.{node_for, written-join, made_join}
 use Rattle.steppers.specs.Loads.{behind, or_else, lacking, lacking_all}
-use Rattle.steppers.specs.Written.{passed_by}
+use Rattle.steppers.specs.Written.{passed_by, LacksAt}
+use Rattle.steppers.specs.Walks.{Reaches, begins, goes_on, over, broken, StopsAt}
 use Rattle.steppers.proofs.Beginnings.{front_node, no_front, all_end}
 
 -- no words in front change no place
@@ -169,35 +170,35 @@ found has w ws ts h is e =
     ap (lacking_all has) f.is ∙ found_by has f.tree f.behind (ap (passed_by has) (sym f.node) ∙ e)
 
 -- no words are the words of no trees
-over : (has : ℕ → ℕ → Bool) (ts : Trees) → WellMadeAll ts false → [] ≡ written_all ts → lacking_all has ts ≡ None
+no_trees : (has : ℕ → ℕ → Bool) (ts : Trees) → WellMadeAll ts false → [] ≡ written_all ts → lacking_all has ts ≡ None
 unfolding lacking written_all WellMadeAll
-over has none h e = refl
-over has (more t us) h e = absurd (no_front t (h.0, (written_all us, e)))
+no_trees has none h e = refl
+no_trees has (more t us) h e = absurd (no_front t (h.0, (written_all us, e)))
 
 -- the search has come to the words from n on
-abbrev pub Searched : (ℕ → ℕ → Bool) → List ℕ → ℕ → Type 0
+abbrev Searched : (ℕ → ℕ → Bool) → List ℕ → ℕ → Type 0
 Searched has words n =
     (t : Tree) → WellFormed t → words ≡ written t → (ts : Trees) × WellMadeAll ts false × (drop n words ≡ written_all ts) × (lacking has t ≡ behind n (lacking_all has ts))
 
 -- at first the forest is the term itself
-pub searched_none : (has : ℕ → ℕ → Bool) (words : List ℕ) → Searched has words 0
+searched_none : (has : ℕ → ℕ → Bool) (words : List ℕ) → Searched has words 0
 unfolding lacking written_all WellMadeAll
 searched_none has words t h e =
     (more t none, (h, tt), e ∙ sym (append-nil (written t)), sym (behind_none (or_else (lacking has t) None) ∙ or_else_none (lacking has t)))
 
 module _ (has : ℕ → ℕ → Bool) (words : List ℕ) (n : ℕ) (p : Searched has words n) where
   -- behind the last word there is no such form
-  pub searched_over : length words ≤ n → (t : Tree) → WellFormed t → words ≡ written t → None ≡ lacking has t
+  searched_over : length words ≤ n → (t : Tree) → WellFormed t → words ≡ written t → None ≡ lacking has t
   searched_over l t h e =
       let q = p t h e in
-      sym (q.3 ∙ ap (behind n) (over has q.0 q.1 (sym (drop_all n words l) ∙ q.2)))
+      sym (q.3 ∙ ap (behind n) (no_trees has q.0 q.1 (sym (drop_all n words l) ∙ q.2)))
 
   module _ (l : n < length words) where
     here : (t : Tree) (h : WellFormed t) (e : words ≡ written t) → get_or words n 0 ∷ drop (n + 1) words ≡ written_all (p t h e).0
     here t h e = sym (drop_more words n 0 l) ∙ (p t h e).2
 
     -- at a word that is not passed, the form is found
-    pub searched_found : passed_by has (node_of (get_or words n 0)) ≡ None → (t : Tree) → WellFormed t → words ≡ written t → Some n ≡ lacking has t
+    searched_found : passed_by has (node_of (get_or words n 0)) ≡ None → (t : Tree) → WellFormed t → words ≡ written t → Some n ≡ lacking has t
     searched_found f t h e =
         let q = p t h e in
         sym (q.3 ∙ ap (behind n) (found has (get_or words n 0) (drop (n + 1) words) q.0 q.1 (here t h e) f) ∙ ap Some (add-zero n))
@@ -207,14 +208,14 @@ module _ (has : ℕ → ℕ → Bool) (words : List ℕ) (n : ℕ) (p : Searched
       next t h e = less has (get_or words n 0) (drop (n + 1) words) d (p t h e).0 (p t h e).1 (here t h e) f
 
       -- the dropped terms of a term end
-      pub searched_broken : (r : Broken) → ending false d (drop (n + 1) words) ≡ Err r → (t : Tree) → WellFormed t → words ≡ written t → None ≡ lacking has t
+      searched_broken : (r : Broken) → ending false d (drop (n + 1) words) ≡ Err r → (t : Tree) → WellFormed t → words ≡ written t → None ≡ lacking has t
       searched_broken r g t h e =
           let ends = (next t h e).ends in
           let z : ◌≡◌ {A = ℕ} 0 1 = cc in
           absurd (omega arith)
 
       -- behind a word that is passed, the search goes on
-      pub searched_more : (size : ℕ) → ending false d (drop (n + 1) words) ≡ Ok size → Searched has words (n + (1 + size))
+      searched_more : (size : ℕ) → ending false d (drop (n + 1) words) ≡ Ok size → Searched has words (n + (1 + size))
       searched_more size g t h e =
           let q = p t h e in
           let m = next t h e in
@@ -223,3 +224,16 @@ module _ (has : ℕ → ℕ → Bool) (words : List ℕ) (n : ℕ) (p : Searched
           let place : drop m.size (drop (n + 1) words) ≡ drop (n + (1 + size)) words =
           drop-drop m.size (n + 1) words ∙ ap (λ k. drop k words) (omega arith) in
           (m.trees, m.made, sym place ∙ m.words, q.3 ∙ ap (behind n) m.finds ∙ behind-behind n (1 + m.size) (lacking_all has m.trees) ∙ ap (λ k. behind (n + (1 + k)) (lacking_all has m.trees)) same)
+
+-- a walk in which each word but a head mark and a form that is lacking goes with no terms
+module _ (has : ℕ → ℕ → Bool) (Passes : ℕ → Option ℕ → Type 0) (passes : (w : ℕ) (r : Option ℕ) → Passes w r → r ≡ passed_by has (node_of w)) (words : List ℕ) where
+  -- it is a search
+  searched : (n : ℕ) → Reaches Passes words n → Searched has words n
+  searched _ begins = searched_none has words
+  searched _ (goes_on n d size r l p e) = searched_more has words n (searched n r) l d (sym (passes _ _ p)) size e
+
+  -- that stops at the first form that is lacking
+  pub stops_lacking : (r : Option ℕ) → StopsAt Passes words r → LacksAt has words r
+  stops_lacking (Some n) s = searched_found has words n (searched n s.0) s.1 (sym (passes _ _ s.2))
+  stops_lacking None (over n r l) = searched_over has words n (searched n r) l
+  stops_lacking None (broken n d q r l p e) = searched_broken has words n (searched n r) l d (sym (passes _ _ p)) q e

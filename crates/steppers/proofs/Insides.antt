@@ -1,5 +1,5 @@
 -- The way through the marks of a term to the node inside them, and what is seen there.
-use Rattle.std.proofs.Common.{◌≡◌, ℕ, ◌+◌, ◌<◌, ◌≤◌, false, List, ◌∷◌, ◌++◌, length, get_or, drop, Some, None, Ok, Err, sym, refl, ap, ◌∙◌, subst, append_assoc, add_assoc, one-add, arith}
+use Rattle.std.proofs.Common.{◌≡◌, ℕ, ◌+◌, ◌<◌, ◌≤◌, false, List, ◌∷◌, ◌++◌, length, get_or, drop, Some, None, Ok, Err, Option, unwrap_or, sym, refl, ap, ◌∙◌, subst, append_assoc, add_assoc, one-add, arith}
 use Rattle.std.proofs.lemmas.List.{drop_at, drop-drop, drop_more, drop_all}
 use Rattle.std.proofs.lemmas.Bool.{false≢true}
 use Rattle.terms.specs.declared.front.Broken.{Broken}
@@ -9,45 +9,46 @@ use Rattle.terms.specs.Fronts.{ending}
 use Rattle.terms.proofs.Shapes.{node_for}
 use Rattle.steppers.specs.Looks.{BeginsWith, seen}
 use Rattle.steppers.specs.Places.{marks_length}
-use Rattle.steppers.specs.Placed.{dropped_by, seen_by}
+use Rattle.steppers.specs.Placed.{dropped_by, seen_by, InsideOf}
+use Rattle.steppers.specs.Walks.{Reaches, begins, goes_on, RunsOut, over, broken, StopsAt}
 use Rattle.steppers.proofs.Beginnings.{front_node, no_front, inner, no_mark}
 
 -- what a term begins with n words on, n words of its marks being passed
-abbrev pub Passed : List ℕ → ℕ → Type 0
+abbrev Passed : List ℕ → ℕ → Type 0
 Passed words n = (t : Tree) → BeginsWith words t → (u : Tree) × BeginsWith (drop n words) u × (n + marks_length u ≡ marks_length t)
 
 -- at first nothing is passed
-pub passed_none : (words : List ℕ) → Passed words 0
+passed_none : (words : List ℕ) → Passed words 0
 passed_none words t b = (t, b, omega arith)
 
 module _ (words : List ℕ) (n : ℕ) (p : Passed words n) where
   -- behind the last word no term begins
-  pub passed_over : length words ≤ n → (t : Tree) → BeginsWith words t → n ≡ marks_length t
+  passed_over : length words ≤ n → (t : Tree) → BeginsWith words t → ⊥
   passed_over h t b =
       let q = p t b in
-      absurd (no_front q.0 (subst (λ l. BeginsWith l q.0) (drop_all n words h) q.1))
+      no_front q.0 (subst (λ l. BeginsWith l q.0) (drop_all n words h) q.1)
 
   module _ (h : n < length words) where
     here : (t : Tree) (b : BeginsWith words t) → BeginsWith (get_or words n 0 ∷ drop (n + 1) words) (p t b).0
     here t b = let q = p t b in subst (λ l. BeginsWith l q.0) (drop_more words n 0 h) q.1
 
     -- a word that is no mark: the node inside the marks
-    pub passed_all : dropped_by (node_of (get_or words n 0)) ≡ None → (t : Tree) → BeginsWith words t → n ≡ marks_length t
+    passed_all : dropped_by (node_of (get_or words n 0)) ≡ None → (t : Tree) → BeginsWith words t → n ≡ marks_length t
     passed_all e t b =
         let q = p t b in
         let z = no_mark (get_or words n 0) (drop (n + 1) words) q.0 (here t b) e in
         omega (arith, q.2)
 
     -- behind a mark of a term its dropped terms end
-    pub passed_broken : (d : ℕ) (r : Broken) → dropped_by (node_of (get_or words n 0)) ≡ Some d → ending false d (drop (n + 1) words) ≡ Err r → (t : Tree) → BeginsWith words t → n ≡ marks_length t
+    passed_broken : (d : ℕ) (r : Broken) → dropped_by (node_of (get_or words n 0)) ≡ Some d → ending false d (drop (n + 1) words) ≡ Err r → (t : Tree) → BeginsWith words t → ⊥
     passed_broken d r e s t b =
         let i = inner (get_or words n 0) (drop (n + 1) words) d (p t b).0 (here t b) e in
         let ends = i.ends in
         let z : ◌≡◌ {A = ℕ} 0 1 = cc in
-        absurd (omega arith)
+        omega arith
 
     -- a mark, with its dropped terms
-    pub passed_mark : (d size : ℕ) → dropped_by (node_of (get_or words n 0)) ≡ Some d → ending false d (drop (n + 1) words) ≡ Ok size → Passed words (n + (1 + size))
+    passed_mark : (d size : ℕ) → dropped_by (node_of (get_or words n 0)) ≡ Some d → ending false d (drop (n + 1) words) ≡ Ok size → Passed words (n + (1 + size))
     passed_mark d size e s t b =
         let q = p t b in
         let i = inner (get_or words n 0) (drop (n + 1) words) d q.0 (here t b) e in
@@ -56,6 +57,23 @@ module _ (words : List ℕ) (n : ℕ) (p : Passed words n) where
         let place : drop i.size (drop (n + 1) words) ≡ drop (n + (1 + size)) words =
         drop-drop i.size (n + 1) words ∙ ap (λ k. drop k words) (omega arith) in
         (i.tree, subst (λ l. BeginsWith l i.tree) place i.begins, omega (arith, q.2, i.marks))
+
+-- a walk in which each mark goes with its dropped terms, and no other word is passed
+module _ (Passes : ℕ → Option ℕ → Type 0) (drops : (w : ℕ) (r : Option ℕ) → Passes w r → r ≡ dropped_by (node_of w)) (words : List ℕ) where
+  -- it passes the marks
+  passed : (n : ℕ) → Reaches Passes words n → Passed words n
+  passed _ begins = passed_none words
+  passed _ (goes_on n d size r l p e) = passed_mark words n (passed n r) l d size (sym (drops _ _ p)) e
+
+  -- and where a term begins it does not run out
+  passes_no_term : (t : Tree) → BeginsWith words t → RunsOut Passes words → ⊥
+  passes_no_term t b (over n r l) = passed_over words n (passed n r) l t b
+  passes_no_term t b (broken n d q r l p e) = passed_broken words n (passed n r) l d q (sym (drops _ _ p)) e t b
+
+  -- so it stops at the node inside the marks
+  pub stops_inside : (r : Option ℕ) → StopsAt Passes words r → InsideOf words (unwrap_or r (length words))
+  stops_inside None s = (omega arith, λ t b. absurd (passes_no_term t b s))
+  stops_inside (Some n) s = (omega (arith, s.1), passed_all words n (passed n s.0) s.1 (sym (drops _ _ s.2)))
 
 -- the node inside the marks
 unfoldable pub core : Tree → Tree

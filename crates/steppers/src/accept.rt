@@ -4,24 +4,17 @@ ghost use Rattle.terms.specs.Words.{node_of};
 ghost use Rattle.steppers.specs.Written.{passed_by, LacksAt, Admitted};
 
 use crate::stepper::Stepper;
-use languages::refusal::Refusal;
-use terms::front::{skip, whole};
+use crate::walk::first_stop;
+use languages::refusal::{Refusal, STEPPER};
+use terms::front::whole;
 use terms::words::{Node, decode};
-
-const STEPPER: u32 = 0;
 
 // How many dropped terms to pass over behind a node; none at a form that the stepper lacks.
 fn passed_by<S: Stepper>(word: u32) -> Option<usize>
     ensures { result ≡ passed_by S.Stepper.table.has (node_of word) }
 {
     match decode(word) {
-        Some(Node::Form { label, count }) => {
-            if S::has_form(label, count) {
-                Some(0)
-            } else {
-                None
-            }
-        }
+        Some(Node::Form { label, count }) => S::form(label, count).map(|_| 0),
         Some(Node::Head { dropped, .. }) => Some(dropped as usize),
         _ => Some(0),
     }
@@ -31,27 +24,17 @@ fn passed_by<S: Stepper>(word: u32) -> Option<usize>
 fn lacking<S: Stepper>(words: &[u32]) -> Option<usize>
     ensures { LacksAt S.Stepper.table.has words.now result }
 {
-    let mut at = 0;
-    while at < words.len() {
-        let Some(dropped) = passed_by::<S>(words[at]) else {
-            return Some(at);
-        };
-        let Ok(size) = skip(&words[at + 1..], dropped) else {
-            return None;
-        };
-        at += 1 + size;
-    }
-    None
+    first_stop(words, |word| passed_by::<S>(word))
 }
 
 // Admits the words of a term that the stepper can hold.
 pub(crate) fn admit<S: Stepper>(words: &[u32]) -> Result<(), Refusal>
     ensures { Admitted S.Stepper.table words.now result }
 {
-    if words.len() > S::most_words() {
+    if words.len() > S::CAPACITY {
         return Err(Refusal::TooLong {
             layer: STEPPER,
-            most: S::most_words(),
+            most: S::CAPACITY,
         });
     }
     if let Err(broken) = whole(words) {

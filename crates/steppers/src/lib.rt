@@ -14,3 +14,4 @@ pub mod run;
 pub mod sequence;
 mod spot;
 pub mod stepper;
+mod walk;

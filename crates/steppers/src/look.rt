@@ -4,6 +4,7 @@ ghost use Rattle.terms.specs.Words.{node_of};
 ghost use Rattle.steppers.specs.Placed.{dropped_by, seen_by, form_count, InsideOf, SeenOf, StartOf, SeenChild};
 
 use crate::action::Seen;
+use crate::walk::first_stop;
 use terms::front::skip;
 use terms::words::{Node, decode};
 
@@ -22,17 +23,7 @@ fn dropped_by(word: u32) -> Option<usize>
 pub(crate) fn inside(words: &[u32]) -> usize
     ensures { InsideOf words.now result }
 {
-    let mut at = 0;
-    while at < words.len() {
-        let Some(dropped) = dropped_by(words[at]) else {
-            return at;
-        };
-        let Ok(size) = skip(&words[at + 1..], dropped) else {
-            return at;
-        };
-        at += 1 + size;
-    }
-    at
+    first_stop(words, dropped_by).unwrap_or(words.len())
 }
 
 // What is seen of a node.

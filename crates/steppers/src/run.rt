@@ -16,14 +16,12 @@ use crate::machine::Machine;
 use crate::stepper::Stepper;
 use languages::answers::{Loaded, Stepped};
 use languages::language::{Language, SHOWN_WORDS};
-use languages::refusal::Refusal;
+use languages::refusal::{Refusal, STEPPER};
 use std::alloc::{AllocError, Global};
 use std::mem::swap;
 
 // A machine takes memory for the longest terms that a stepper may hold.
 const MOST_WORDS: usize = 1024;
-// The height of a stepper.
-const HEIGHT: u32 = 0;
 
 // Memory for the words of one term.
 fn take_room(heap: Global) -> Result<Vec<u32>, AllocError>
@@ -112,12 +110,12 @@ impl<S: Stepper + Drop> Language for Machine<S> {
         let spot = find::<S>(&self.term, inputs);
         match spot.action {
             Action::Replace { effect, by } => {
-                let fits = rewrite(&mut self.next, &self.term, spot, by, S::most_words());
+                let fits = rewrite(&mut self.next, &self.term, spot, by, S::CAPACITY);
                 settle(fits, &mut self.term, &mut self.next);
                 Ok(moved_if(fits, effect))
             }
             // the next term is the term itself
-            Action::Wait => Ok(moved_if(self.term.len() <= S::most_words(), 0)),
+            Action::Wait => Ok(moved_if(self.term.len() <= S::CAPACITY, 0)),
             Action::Child(_) | Action::Stuck => Ok(Stepped::Stuck),
         }
     }
@@ -125,7 +123,7 @@ impl<S: Stepper + Drop> Language for Machine<S> {
     fn show(&mut self, buffer: &mut [u32]) -> Result<Option<usize>, Refusal> {
         if buffer.len() < SHOWN_WORDS {
             return Err(Refusal::ShortBuffer {
-                height: HEIGHT,
+                height: STEPPER,
                 length: buffer.len(),
             });
         }

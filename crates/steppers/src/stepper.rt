@@ -1,31 +1,39 @@
 // The trait of a stepper: its capacity, its forms, and its step table.
-ghost use Rattle.std.specs.Prelude.{◌≡◌};
+ghost use Rattle.std.specs.Prelude.{◌≡◌, ℕ, is_some, IfSome};
 ghost use Rattle.steppers.specs.Table.{Table, Sound, ActsAt};
 
 use crate::action::{Action, Seen};
 
 pub trait Stepper {
+    // The stepper's forms.
+    type Form: Copy;
+
     // How many words the stepper can hold, 1 to 1,024.
     const CAPACITY: usize;
 
-    // The same capacity, the forms and the step table, as definitions.
+    // The same number, as proofs over any stepper read it.
+    ghost CAPACITY: { ℕ };
+
+    // The capacity, the forms and the step table, as definitions.
     ghost table: { Table };
 
-    // The capacity. A proof over any stepper learns nothing of the constant itself, and reads it here.
-    fn most_words() -> usize
-        ensures { result ≡ table.capacity };
+    // The label of a form.
+    ghost label_of: { Self.Form → ℕ };
 
-    // Whether the stepper has the form with this count of children.
-    fn has_form(label: u32, count: u32) -> bool
-        ensures { result ≡ table.has label count };
+    // The form with this label and this count of children; none if the stepper lacks it.
+    fn form(label: u32, count: u32) -> Option<Self::Form>
+        ensures has { is_some result ≡ table.has label count }
+        ensures named { IfSome result (λ form. label_of form ≡ label) };
 
     // Whether a whole term that is seen so has ended.
     fn has_ended(seen: Seen) -> bool
         ensures { result ≡ table.over seen };
 
     // What a step does at a form; the words begin with it.
-    fn act(label: u32, node: &[u32], inputs: u32) -> Action
-        ensures { ActsAt table.acts label node.now inputs result };
+    fn act(form: Self::Form, node: &[u32], inputs: u32) -> Action
+        ensures { ActsAt table.acts (label_of form) node.now inputs result };
+
+    ghost same_capacity: { table.capacity ≡ CAPACITY };
 
     ghost sound: { Sound table };
 }

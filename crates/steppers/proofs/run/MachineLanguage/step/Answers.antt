@@ -36,7 +36,7 @@ rewrite-fits-requires g c =
       few = subst (λ xs. length xs ≤ 1024) same t.3;
       within = (subst (λ xs. c.find-spot.result.outer ≤ length xs) same r.outer_within, subst (λ xs. c.find-spot.result.node ≤ length xs) same r.node_within);
       wordable = r.wordable;
-      room = omega (arith, c.most_words.ensures, sound.holds_few, c.args.self.now.room_for_next);
+      room = omega (arith, c.CAPACITY.ensures, g.met.S.Stepper.same_capacity, sound.holds_few, c.args.self.now.room_for_next);
     }
 
 pub invariant_of-self-in-Replace : goal.invariant_of-self-in-Replace
@@ -51,7 +51,7 @@ invariant_of-self-in-Replace g c =
     let by = c.in-Replace.by in
     let r = rewrites table sound ws c.args.inputs t.0 t.1 t.2 t.4 spot found c.in-Replace.effect by c.in-Replace.is in
     let same = c.deref-in-Replace.ensures.value in
-    let size = c.rewrite-fits.ensures.answer ∙ ap (λ xs. leb (length (rewritten xs spot.outer spot.node by)) c.most_words.result) same ∙ ap (leb (length (rewritten ws spot.outer spot.node by))) c.most_words.ensures in
+    let size = c.rewrite-fits.ensures.answer ∙ ap (λ xs. leb (length (rewritten xs spot.outer spot.node by)) c.CAPACITY.result) same ∙ ap (leb (length (rewritten ws spot.outer spot.node by))) (c.CAPACITY.ensures ∙ sym g.met.S.Stepper.same_capacity) in
     let items : c.rewrite-fits.result ≡ true → vec_items c.rewrite-fits.new.out ≡ rewritten ws spot.outer spot.node by = λ e. c.rewrite-fits.ensures.items e ∙ ap (λ xs. rewritten xs spot.outer spot.node by) same in
     let left = settles table sound ws c.args.inputs t.0 t.1 t.2 t.4 spot found c.in-Replace.effect by v c.rewrite-fits.new.out c.settle.new.term c.settle.new.next c.rewrite-fits.result r refl size items c.args.self.now.room (omega (arith, c.args.self.now.room_for_next, c.rewrite-fits.ensures.room)) c.args.self.now.holds c.settle.ensures in
     record { holds = left.0; room = left.1; room_for_next = left.2 }
@@ -68,7 +68,7 @@ returns-in-Replace g c =
     let by = c.in-Replace.by in
     let r = rewrites table sound ws c.args.inputs t.0 t.1 t.2 t.4 spot found c.in-Replace.effect by c.in-Replace.is in
     let same = c.deref-in-Replace.ensures.value in
-    let size = c.rewrite-fits.ensures.answer ∙ ap (λ xs. leb (length (rewritten xs spot.outer spot.node by)) c.most_words.result) same ∙ ap (leb (length (rewritten ws spot.outer spot.node by))) c.most_words.ensures in
+    let size = c.rewrite-fits.ensures.answer ∙ ap (λ xs. leb (length (rewritten xs spot.outer spot.node by)) c.CAPACITY.result) same ∙ ap (leb (length (rewritten ws spot.outer spot.node by))) (c.CAPACITY.ensures ∙ sym g.met.S.Stepper.same_capacity) in
     let items : c.rewrite-fits.result ≡ true → vec_items c.rewrite-fits.new.out ≡ rewritten ws spot.outer spot.node by = λ e. c.rewrite-fits.ensures.items e ∙ ap (λ xs. rewritten xs spot.outer spot.node by) same in
     let left = settles table sound ws c.args.inputs t.0 t.1 t.2 t.4 spot found c.in-Replace.effect by v c.rewrite-fits.new.out c.settle.new.term c.settle.new.next c.rewrite-fits.result r refl size items c.args.self.now.room (omega (arith, c.args.self.now.room_for_next, c.rewrite-fits.ensures.room)) c.args.self.now.holds c.settle.ensures in
     record { answer = subst (λ s. StepGives (meaning_of table) c.args.inputs (term_of ws) (Ok s) (term_of (vec_items c.settle.new.term))) (sym c.moved_if.ensures) left.3; stays = refl }
@@ -82,7 +82,7 @@ returns-in-Wait g c =
     let t = going table sound ws _ v.len c.args.self.now.holds v.ok.0 (eqb-false _ 0 (sym c.if-is_empty.ensures)) c.deref.ensures.value c.if-is_over.ensures in
     let found = subst (λ xs. FoundIn table xs c.args.inputs c.find-spot.result) c.deref-2.ensures.value c.find-spot.ensures in
     let waits = steps_waits table sound ws c.args.inputs t.0 t.1 t.2 t.4 c.find-spot.result found c.in-Wait.is in
-    let fits : leb (length ws) table.capacity ≡ leb c.len.result c.most_words-in-Wait.result = let size : c.len.result ≡ length ws = c.len.ensures ∙ v.ok.0 in let most = c.most_words-in-Wait.ensures in cc in
+    let fits : leb (length ws) table.capacity ≡ leb c.len.result c.CAPACITY-in-Wait.result = let size : c.len.result ≡ length ws = c.len.ensures ∙ v.ok.0 in let most = c.CAPACITY-in-Wait.ensures ∙ sym g.met.S.Stepper.same_capacity in cc in
     let answer : cond (leb (length ws) table.capacity) (Moved 0) Full ≡ c.moved_if-in-Wait.result = ap (λ b. cond b (Moved 0) Full) fits ∙ sym c.moved_if-in-Wait.ensures in
     record { answer = subst (λ s. StepGives (meaning_of table) c.args.inputs (term_of ws) (Ok s) (term_of ws)) answer waits; stays = refl }
 
