@@ -122,7 +122,7 @@ fn read_forms(heap: Global, head: Head, text: &[u8]) -> Result<Vec<Form>, Refusa
         };
         forms.push(form)?;
         before = form.label;
-        rest = line.rest;
+        rest = line.rest();
     }
     match next_line(rest) {
         Some(_) => Err(Refusal::LineExtra(Place::Form(head.forms))),
@@ -140,6 +140,6 @@ pub(crate) fn read_header(heap: Global, text: &[u8]) -> Result<Header, Refusal>
     let Some(head) = read_head(heap, line)? else {
         return Err(Refusal::LineBroken(Place::Head));
     };
-    let forms = read_forms(heap, head, line.rest)?;
+    let forms = read_forms(heap, head, line.rest())?;
     Ok(Header { head, forms })
 }

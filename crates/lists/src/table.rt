@@ -125,7 +125,7 @@ fn read_rules(heap: Global, count: u32, text: &[u8]) -> Result<Vec<Rule>, Refusa
             return Err(Refusal::LineBroken(Place::Rule(k)));
         };
         rules.push(rule)?;
-        rest = line.rest;
+        rest = line.rest();
     }
     match next_line(rest) {
         Some(_) => Err(Refusal::LineExtra(Place::Rule(count))),
@@ -146,5 +146,5 @@ pub(crate) fn read_table(heap: Global, head: Head, text: &[u8]) -> Result<Vec<Ru
     if layer != head.layer || rules != head.rules {
         return Err(Refusal::TableDiffers);
     }
-    read_rules(heap, head.rules, line.rest)
+    read_rules(heap, head.rules, line.rest())
 }

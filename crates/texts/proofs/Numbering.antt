@@ -1,11 +1,8 @@
 -- Number fields digit by digit, and the fields of a line one by one.
-use Rattle.std.proofs.Common.{◌≡◌, ℕ, ◌+◌, ◌*◌, ◌<◌, ◌≤◌, true, false, List, [], ◌∷◌, ◌++◌, length, get_or, drop, Some, None, Option, sym, refl, ap, ◌∙◌, arith}
-use Rattle.std.proofs.lemmas.List.{drop_more, append_assoc, append-nil}
+use Rattle.std.proofs.Common.{◌≡◌, ℕ, ◌+◌, ◌*◌, ◌<◌, ◌≤◌, List, [], ◌∷◌, ◌++◌, length, get_or, drop, Some, None, Option, sym, refl, ap, ◌∙◌, arith}
+use Rattle.std.proofs.lemmas.List.{drop_more, at_drop_more, at_drop_all, append_assoc, append-nil}
 use Rattle.std.proofs.lemmas.Bool.{le-leb, lt-leb}
-use Rattle.texts.specs.declared.text.Piece.{Piece}
-use Rattle.texts.specs.Texts.{digit_of, digits, number, numbers, pieces}
-use Rattle.texts.specs.Pieces.{FirstPiece}
-use Rattle.texts.proofs.Cutting.{pieces_then, pieces_only, pieces_begin}
+use Rattle.texts.specs.Texts.{digit_of, digits, number, numbers}
 
 module _ (v b : ℕ) (bs : List ℕ) where
   pub no_digit : digit_of b ≡ None → digits v (b ∷ bs) ≡ None
@@ -60,32 +57,20 @@ unfolding resumed
 resumed_none None = refl
 resumed_none (Some ns) = refl
 
-not_a_number : (read f : List ℕ) (fs : List (List ℕ)) → number f ≡ None → resumed read (numbers (f ∷ fs)) ≡ None
+-- the fields that are left, of which the next is at place i
+module _ (read : List ℕ) (fields : List (List ℕ)) (i : ℕ) (f : List ℕ) (at : (i < length fields) × (f ≡ get_or fields i f)) where
+  pub bad_field : number f ≡ None → resumed read (numbers (drop i fields)) ≡ None
+  unfolding resumed numbers
+  bad_field e = at_drop_more (λ l. resumed read (numbers l)) fields i f at.0 ∙ rw (← at.1, e, numbers) refl
+
+  pub next_field : (n : ℕ) → number f ≡ Some n → resumed read (numbers (drop i fields)) ≡ resumed (read ++ n ∷ []) (numbers (drop (i + 1) fields))
+  unfolding resumed numbers
+  next_field n e = at_drop_more (λ l. resumed read (numbers l)) fields i f at.0 ∙ rw (← at.1, e, numbers) (by (numbers (drop (i + 1) fields)))
+    where
+      by : (o : Option (List ℕ)) → resumed read (elim o [ None ↦ None | Some ns ↦ Some (n ∷ ns) ]) ≡ resumed (read ++ n ∷ []) o
+      by None = refl
+      by (Some ns) = ap (λ (l : List ℕ). Some l) (sym (append_assoc read (n ∷ []) ns))
+
+pub fields_end : (read : List ℕ) (fields : List (List ℕ)) (i : ℕ) → length fields ≤ i → resumed read (numbers (drop i fields)) ≡ Some read
 unfolding resumed numbers
-not_a_number read f fs e = rw (e, numbers)
-
-one_number : (read f : List ℕ) (fs : List (List ℕ)) (n : ℕ) → number f ≡ Some n → resumed read (numbers (f ∷ fs)) ≡ resumed (read ++ n ∷ []) (numbers fs)
-unfolding resumed numbers
-one_number read f fs n e = rw (e, numbers) (by (numbers fs))
-  where
-    by : (o : Option (List ℕ)) → resumed read (elim o [ None ↦ None | Some ns ↦ Some (n ∷ ns) ]) ≡ resumed (read ++ n ∷ []) o
-    by None = refl
-    by (Some ns) = ap (λ (l : List ℕ). Some l) (sym (append_assoc read (n ∷ []) ns))
-
-numbers_end : (read : List ℕ) → resumed read (numbers []) ≡ Some read
-unfolding resumed numbers
-numbers_end read = ap (λ (l : List ℕ). Some l) (append-nil read)
-
--- the fields that are left, by the first of them
-module _ (read rest : List ℕ) (p : Piece) (cut : FirstPiece 44 rest p) where
-  abbrev left : Option (List ℕ)
-  left = resumed read (numbers (pieces 44 rest))
-
-  pub bad_field : number p.bytes.now ≡ None → left ≡ None
-  bad_field e = let begins = pieces_begin 44 rest p cut in ap (λ l. resumed read (numbers l)) begins.1 ∙ not_a_number read _ begins.0 e
-
-  pub last_field : (n : ℕ) → p.ended ≡ false → number p.bytes.now ≡ Some n → left ≡ Some (read ++ n ∷ [])
-  last_field n l e = ap (λ l. resumed read (numbers l)) (pieces_only 44 rest p cut l) ∙ one_number read _ [] n e ∙ numbers_end (read ++ n ∷ [])
-
-  pub next_field : (n : ℕ) → p.ended ≡ true → number p.bytes.now ≡ Some n → left ≡ resumed (read ++ n ∷ []) (numbers (pieces 44 p.rest.now))
-  next_field n l e = ap (λ l. resumed read (numbers l)) (pieces_then 44 rest p cut l) ∙ one_number read _ _ n e
+fields_end read fields i l = at_drop_all (λ l. resumed read (numbers l)) fields i l ∙ ap (λ (l : List ℕ). Some l) (append-nil read)

@@ -1,5 +1,6 @@
 -- A text as lines and fields: where they are cut, what a number field is worth, and what a line says.
 use Rattle.std.specs.Prelude.{ℕ, ◌+◌, ◌-◌, ◌*◌, Bool, true, false, cond, ◌&&◌, List, [], ◌∷◌, map, length, Some, None, codes, Option, ◌==◌, nat_le}
+use Rattle.std.specs.List.{slice_split}
 use Rattle.texts.specs.declared.text.Separator.{Separator}
 use Rattle.texts.specs.declared.text.Separator.TheVariants.{LineEnd, Comma}
 
@@ -8,16 +9,9 @@ abbrev pub byte_of : Separator → ℕ
 byte_of LineEnd = 10
 byte_of Comma = 44
 
--- one more byte in front of the first piece
-unfoldable pub grown : ℕ → List (List ℕ) → List (List ℕ)
-grown b [] = (b ∷ []) ∷ []
-grown b (p ∷ ps) = (b ∷ p) ∷ ps
-
 -- the pieces of a text that stand between separators: one more than it has separators
 unfoldable pub pieces : ℕ → List ℕ → List (List ℕ)
-unfolding grown
-pieces sep [] = [] ∷ []
-pieces sep (b ∷ bs) = elim (b == sep) [ true ↦ [] ∷ pieces sep bs | false ↦ grown b (pieces sep bs) ]
+pieces sep text = slice_split (λ b. b == sep) text
 
 -- a line's bytes, and whether byte 10 ends it
 pub record TextLine : Type 0 where

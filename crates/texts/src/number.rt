@@ -52,16 +52,11 @@ pub fn read_numbers(heap: Global, fields: &[u8]) -> Result<Option<Vec<u32>>, All
     ensures { IfOk result (λ v. option_map vec_items v ≡ numbers (pieces 44 fields.now)) }
 {
     let mut values = Vec::new(heap);
-    let mut rest = fields;
-    loop {
-        let field = cut(rest, Separator::Comma);
-        let Some(value) = read_number(field.bytes) else {
+    for field in fields.split(|byte| Separator::Comma.is_at(*byte)) {
+        let Some(value) = read_number(field) else {
             return Ok(None);
         };
         values.push(value)?;
-        if !field.ended {
-            return Ok(Some(values));
-        }
-        rest = field.rest;
     }
+    Ok(Some(values))
 }

@@ -1,4 +1,4 @@
-use Rattle.std.proofs.Common.{◌+◌, ◌-◌, length, vec_items, sym, refl, ap, ◌∙◌, inr, arith}
+use Rattle.std.proofs.Common.{[], ◌∷◌, ◌++◌, ◌+◌, ◌-◌, length, vec_items, sym, refl, ap, ◌∙◌, inr, arith}
 use native.Mathlib.Nat.{sub-zero}
 use Rattle.std.proofs.lemmas.List.{length_push}
 use Rattle.texts.specs.Texts.{readings}
@@ -27,7 +27,8 @@ loop-i-preserved c =
     let said = ap (λ b. form_of_line c.args.head.layer b (line_says c.in-Some.line)) c.loop-i.invariant.1 ∙ sym c.in_ok-form.ensures ∙ c.in-Some-2.is in (
       ap length items ∙ length_push _ _ ∙ ap (λ n. n + 1) c.loop-i.invariant.0,
       ap last_label items ∙ last_label_lem (vec_items c.loop-i.forms) c.in-Some-2.form,
-      ap (λ l. judge_forms c.args.head l (c.args.head.forms - (c.loop-i.i + 1)) (readings c.in-Some.line.rest.now)) items
+      ap (λ l. judge_forms c.args.head l (c.args.head.forms - (c.loop-i.i + 1)) (readings c.rest-rest.result.now)) items
+          ∙ ap (λ t. judge_forms c.args.head (vec_items c.loop-i.forms ++ c.in-Some-2.form ∷ []) (c.args.head.forms - (c.loop-i.i + 1)) (readings t)) c.rest-rest.ensures
           ∙ sym (line_read _ _ _ _ c.loop-i.invariant.0 _ _ _ _ _ _ (omega arith) c.in-Some.ensures.0 said) ∙ c.loop-i.invariant.2,
     )
 

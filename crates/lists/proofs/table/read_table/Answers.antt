@@ -1,6 +1,7 @@
-use Rattle.std.proofs.Common.{sym, ◌∙◌, subst, inr, ⊎_elim}
+use Rattle.std.proofs.Common.{[], sym, ap, ◌∙◌, subst, inr, ⊎_elim}
 use Rattle.std.proofs.lemmas.Bool.{ne_eqb, and_left, and_right}
-use Rattle.lists.specs.Lines.{Answers, all_sides}
+use Rattle.texts.specs.Texts.{readings}
+use Rattle.lists.specs.Lines.{Answers, judge_rules, all_sides}
 use Rattle.lists.proofs.Judging.{no_table, bad_table, table_is, table_differs}
 use Rattle.lists.proofs.table.read_table.Goals as goal
 
@@ -19,5 +20,5 @@ returns-then-layer-head c =
 pub returns : goal.returns
 returns c =
     let has = sym c.in_ok-layer.ensures ∙ c.in-Some-2.is in
-    let is = table_is _ _ _ _ c.in-Some.ensures.0 _ _ has c.if-layer-head.false c.if-rules-head.false in
+    let is = table_is _ _ _ _ c.in-Some.ensures.0 _ _ has c.if-layer-head.false c.if-rules-head.false ∙ ap (λ t. judge_rules [] c.args.head.rules (readings t)) (sym c.rest.ensures) in
     subst (λ s. Answers all_sides s c.read_rules.result) (sym is) c.read_rules.ensures
