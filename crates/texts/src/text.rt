@@ -41,7 +41,7 @@ impl<'a> Piece<'a> {
 }
 
 // Cuts the first piece off a text.
-pub(crate) fn cut(text: &[u8], separator: Separator) -> Piece<'_>
+fn cut(text: &[u8], separator: Separator) -> Piece<'_>
     ensures { FirstPiece (byte_of separator) text.now result }
 {
     match text.iter().position(|byte| separator.is_at(*byte)) {
