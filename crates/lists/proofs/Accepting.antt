@@ -38,7 +38,6 @@ pub record HeaderKeeps (d : Declared) : Type 0 where
   pub few_forms : length d.forms ≡ d.head.forms
   pub forms_most : d.head.forms ≤ 32
   pub rules_most : d.head.rules ≤ 32
-  pub layer_most : d.head.layer ≤ 6
   pub rising_forms : rising d.head.layer d.forms ≡ true
 
 most : (n low high : ℕ) → (leb low n && leb n high) ≡ true → n ≤ high
@@ -55,7 +54,6 @@ header_keeps rs d e =
       few_forms = ap length lines.1 ∙ lines.2;
       forms_most = most _ 1 32 head.1.1;
       rules_most = most _ 1 32 head.1.2;
-      layer_most = most _ 1 6 head.1.0;
       rising_forms = ap (rising d.head.layer) lines.1 ∙ rise.1;
     }
 
@@ -66,10 +64,10 @@ table_count h rs rules e =
     ap length lines.1 ∙ lines.2
 
 -- the numbers within which the faults of a list are looked for
-pub few_parts : (hs ts : List Reading) (d : Declared) (rules rs : List Rule) (fs : List Form) → judge_header hs ≡ Ok d → judge_table d.head ts ≡ Ok (map sides_of rules) → fs ≡ d.forms → rs ≡ rules → (d.head.layer ≤ 6) × ((length fs ≤ 32) × (length rs ≤ 32))
+pub few_parts : (hs ts : List Reading) (d : Declared) (rules rs : List Rule) (fs : List Form) → judge_header hs ≡ Ok d → judge_table d.head ts ≡ Ok (map sides_of rules) → fs ≡ d.forms → rs ≡ rules → (length fs ≤ 32) × (length rs ≤ 32)
 few_parts hs ts d rules rs fs head lines forms same =
     let keeps = header_keeps hs d head in
     let count = sym (length-map rules sides_of) ∙ table_count d.head ts (map sides_of rules) lines in
     let fs_long = ap length forms ∙ keeps.few_forms in
     let rs_long = ap length same ∙ count in
-    (keeps.layer_most, (omega (arith, keeps.forms_most, fs_long), omega (arith, keeps.rules_most, rs_long)))
+    (omega (arith, keeps.forms_most, fs_long), omega (arith, keeps.rules_most, rs_long))

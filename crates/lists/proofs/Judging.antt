@@ -52,7 +52,7 @@ module _ (all : List Reading) (r : Reading) (rs : List Reading) (e : all ≡ r �
   unfolding judge_header
   bad_header none = rw e (rw (none, judge_header))
 
-  pub header_is : (h : Head) → head_of_line r ≡ Some h → judge_header all ≡ with_forms h (judge_forms h [] h.forms rs)
+  pub header_is : (h : Head) → head_of_line r ≡ Some h → judge_header all ≡ with_forms h (judge_forms h.layer [] h.forms rs)
   unfolding judge_header
   header_is h has = rw e (rw (has, judge_header))
 

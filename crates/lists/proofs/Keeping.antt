@@ -50,7 +50,7 @@ pub record HeaderRead (rs : List Reading) (d : Declared) : Type 0 where
   pub rest : List Reading
   pub lines : rs ≡ first ∷ rest
   pub head : head_of_line first ≡ Some d.head
-  pub forms : judge_forms d.head [] d.head.forms rest ≡ Ok d.forms
+  pub forms : judge_forms d.head.layer [] d.head.forms rest ≡ Ok d.forms
 
 with_forms_lem : (h : Head) (o : Result (List Form) Refusal) (d : Declared) → with_forms h o ≡ Ok d → (d.head ≡ h) × (o ≡ Ok d.forms)
 with_forms_lem h (Ok fs) d e = let same = same_ok e in (sym (ap (λ (x : Declared). x.head) same), ap (λ (x : Declared). Ok x.forms) same)
@@ -61,7 +61,7 @@ unfolding judge_header
 header_read [] d e = absurd (err_not_ok e)
 header_read (r ∷ rs) d e = by (head_of_line r) refl e
   where
-    by : (o : Option Head) → head_of_line r ≡ o → ◌≡◌ {A = Result Declared Refusal} (elim o [ None ↦ Err (LineBroken place.Head) | Some h ↦ with_forms h (judge_forms h [] h.forms rs) ]) (Ok d) → HeaderRead (r ∷ rs) d
+    by : (o : Option Head) → head_of_line r ≡ o → ◌≡◌ {A = Result Declared Refusal} (elim o [ None ↦ Err (LineBroken place.Head) | Some h ↦ with_forms h (judge_forms h.layer [] h.forms rs) ]) (Ok d) → HeaderRead (r ∷ rs) d
     by None has e = absurd (err_not_ok e)
     by (Some h) has e =
         let p = with_forms_lem h _ d e in
@@ -70,7 +70,7 @@ header_read (r ∷ rs) d e = by (head_of_line r) refl e
           rest = rs;
           lines = refl;
           head = has ∙ ap (λ (x : Head). Some x) (sym p.0);
-          forms = subst (λ (x : Head). judge_forms x [] x.forms rs ≡ Ok d.forms) (sym p.0) p.1;
+          forms = subst (λ (x : Head). judge_forms x.layer [] x.forms rs ≡ Ok d.forms) (sym p.0) p.1;
         }
 
 -- a table whose lines are in order, and that agrees with the header

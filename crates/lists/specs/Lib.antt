@@ -1,4 +1,5 @@
 pub mod Refusals
+pub mod Layers
 pub mod Lines
 pub mod Sides
 pub mod Sound

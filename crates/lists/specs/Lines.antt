@@ -1,7 +1,8 @@
 -- The lines of a header and of a table: their patterns and ranges, and the order in which they are judged.
-use Rattle.std.specs.Prelude.{◌≡◌, ℕ, zero, suc, ◌+◌, ◌*◌, Bool, true, false, cond, ◌&&◌, ◌⊎◌, List, [], ◌∷◌, ◌++◌, map, length, take, drop, Some, None, Ok, Err, vec_items, Option, Result, Vec, MatchResult, ◌==◌, nat_le, nat_lt}
+use Rattle.std.specs.Prelude.{◌≡◌, ℕ, zero, suc, ◌+◌, ◌*◌, true, false, cond, ◌&&◌, ◌⊎◌, List, [], ◌∷◌, ◌++◌, map, length, take, drop, Some, None, Ok, Err, vec_items, Option, Result, Vec, MatchResult, ◌==◌, nat_le, nat_lt}
 use Rattle.std.specs.Borrow.{Bor}
 use Rattle.std.specs.declared.alloc.Global.{Global}
+pub use Rattle.lists.specs.Layers.{within, owned}
 use Rattle.lists.specs.declared.parts.Form.{Form}
 use Rattle.lists.specs.declared.parts.Head.{Head}
 use Rattle.lists.specs.declared.parts.Header.{Header}
@@ -14,9 +15,6 @@ use Rattle.texts.specs.declared.text.Word.{Word}
 use Rattle.texts.specs.declared.text.Word.TheVariants as word
 use Rattle.terms.specs.Words.{is_layer, word as word_with}
 use Rattle.texts.specs.Texts.{Reading, head_line, form_line, table_line, rule_line, broken_line}
-
-abbrev pub within : ℕ → ℕ → ℕ → Bool
-within low high n = nat_le low n && nat_le n high
 
 -- the numbers of a line that begins with the word
 abbrev pub numbers_of : Word → Reading → Option (List ℕ)
@@ -39,10 +37,6 @@ head_of (k ∷ f ∷ r ∷ n ∷ ns) = None
 
 abbrev pub head_of_line : Reading → Option Head
 head_of_line r = and_then (numbers_of word.Head r) head_of
-
--- the labels that layer k owns
-abbrev pub owned : ℕ → ℕ → Bool
-owned k label = within (32 + 32 * k) (63 + 32 * k) label
 
 -- the label of the last form, or the one before if there is none
 abbrev pub last_from : ℕ → List Form → ℕ
@@ -114,8 +108,8 @@ module _ {X : Type 0} (at : ℕ → Place) (reads : List X → Reading → Optio
   judge_lines read (suc n) [] = Err (LineMissing (at (length read)))
   judge_lines read (suc n) (r ∷ rs) = elim (reads read r) [ None ↦ Err (LineBroken (at (length read))) | Some x ↦ judge_lines (read ++ x ∷ []) n rs ]
 
-abbrev pub judge_forms : Head → List Form → ℕ → List Reading → Result (List Form) Refusal
-judge_forms h = judge_lines (λ i. place.Form i) (λ read. form_of_line h.layer (last_label read))
+abbrev pub judge_forms : ℕ → List Form → ℕ → List Reading → Result (List Form) Refusal
+judge_forms k = judge_lines (λ i. place.Form i) (λ read. form_of_line k (last_label read))
 
 abbrev pub judge_rules : List Sides → ℕ → List Reading → Result (List Sides) Refusal
 judge_rules = judge_lines (λ i. place.Rule i) (λ read. rule_of_line (length read))
@@ -132,7 +126,7 @@ with_forms h (Err e) = Err e
 -- a header's lines
 unfoldable pub judge_header : List Reading → Result Declared Refusal
 judge_header [] = Err (LineMissing place.Head)
-judge_header (r ∷ rs) = elim (head_of_line r) [ None ↦ Err (LineBroken place.Head) | Some h ↦ with_forms h (judge_forms h [] h.forms rs) ]
+judge_header (r ∷ rs) = elim (head_of_line r) [ None ↦ Err (LineBroken place.Head) | Some h ↦ with_forms h (judge_forms h.layer [] h.forms rs) ]
 
 -- a table's lines, behind a header with this first line
 unfoldable pub judge_table : Head → List Reading → Result (List Sides) Refusal

@@ -8,6 +8,7 @@ ghost use Rattle.lists.specs.Laws.{Means};
 
 use crate::faults::fault_in;
 use crate::header::read_header;
+use crate::layer::Layer;
 use crate::list::RuleList;
 use crate::parts::{Form, Header, Rule};
 use crate::refusal::Refusal;
@@ -24,7 +25,7 @@ fn read_list(heap: Global, header: &[u8], table: &[u8]) -> Result<RuleList, Refu
         return Err(Refusal::TextTooLong);
     }
     let Header { head, forms } = read_header(heap, header)?;
-    let rules = read_table(heap, head, table)?;
+    let rules = read_table(heap, &head, table)?;
     match fault_in(head.layer, &forms, &rules) {
         Some(refusal) => Err(refusal),
         None => Ok(RuleList {
@@ -49,7 +50,7 @@ impl RuleList {
         ensures { listed_in result ≡ blank }
     {
         RuleList {
-            layer: 1,
+            layer: Layer::first(),
             forms: Vec::new(heap),
             rules: Vec::new(heap),
         }
@@ -67,7 +68,7 @@ impl RuleList {
     pub fn layer(&self) -> u32
         ensures { result ≡ (listed_in self.now).layer }
     {
-        self.layer
+        self.layer.number()
     }
 
     // The forms that the list declares, in the order of their labels.

@@ -5,13 +5,14 @@ ghost use Rattle.lists.specs.Sides.{any, is_for};
 ghost use Rattle.lists.specs.Acceptance.{side_fault, overlap_fault, form_fault, fault_in};
 ghost use Rattle.lists.specs.Sound.{overlaps_some};
 
+use crate::layer::Layer;
 use crate::parts::{Form, Rule};
 use crate::refusal::Refusal;
 use crate::sides::{is_for, is_linear, is_shaped, overlap};
 
 // The first rule with a side out of shape or with a variable that stands wrongly.
-fn side_fault(k: u32, forms: &[Form], rules: &[Rule]) -> Option<Refusal>
-    requires { (k ≤ 6) × (length rules.now ≤ 32) }
+fn side_fault(k: Layer, forms: &[Form], rules: &[Rule]) -> Option<Refusal>
+    requires { length rules.now ≤ 32 }
     ensures { result ≡ side_fault k forms.now 0 (map sides_of rules.now) }
 {
     let mut i: u32 = 0;
@@ -80,8 +81,8 @@ fn form_fault(rules: &[Rule], forms: &[Form]) -> Option<Refusal>
 }
 
 // The first fault of a list: of a rule's sides, of two rules that overlap, of a form without a rule.
-pub(crate) fn fault_in(k: u32, forms: &[Form], rules: &[Rule]) -> Option<Refusal>
-    requires { (k ≤ 6) × ((length forms.now ≤ 32) × (length rules.now ≤ 32)) }
+pub(crate) fn fault_in(k: Layer, forms: &[Form], rules: &[Rule]) -> Option<Refusal>
+    requires { (length forms.now ≤ 32) × (length rules.now ≤ 32) }
     ensures { result ≡ fault_in (record { layer = k; forms = forms.now; rules = map sides_of rules.now }) }
 {
     side_fault(k, forms, rules)

@@ -3,12 +3,13 @@ ghost use Rattle.std.specs.Prelude.{◌≡◌, ◌≤◌, [], IfOk, vec_items};
 ghost use Rattle.std.specs.Option.{option_map};
 ghost use Rattle.texts.specs.Texts.{readings};
 ghost use Rattle.texts.specs.Pieces.{fields_of, line_says};
-ghost use Rattle.lists.specs.Lines.{Answers, numbers_of, owned, head_of, head_of_line, form_of, form_of_line, judge_forms, judge_header, declared_by};
+ghost use Rattle.lists.specs.Lines.{Answers, numbers_of, head_of, head_of_line, form_of, form_of_line, judge_forms, judge_header, declared_by};
 
-use crate::parts::{Form, Head, Header, LABELS, MOST_RULES};
+use crate::layer::Layer;
+use crate::parts::{Form, Head, Header, MOST_RULES};
 use crate::refusal::{Place, Refusal};
 use std::alloc::{AllocError, Global};
-use terms::words::{FIRST_LAYER, LAST_LAYER, MOST_CHILDREN};
+use terms::words::MOST_CHILDREN;
 use texts::number::read_numbers;
 use texts::text::{Line, Piece, Word, first_field, next_line};
 
@@ -48,9 +49,9 @@ fn head_from(numbers: &[u32]) -> Option<Head>
     let [layer, forms, rules] = *numbers else {
         return None;
     };
-    if layer < FIRST_LAYER || layer > LAST_LAYER {
+    let Ok(layer) = Layer::try_from(layer) else {
         return None;
-    }
+    };
     if forms < 1 || forms > MOST_FORMS || rules < 1 || rules > MOST_RULES {
         return None;
     }
@@ -61,24 +62,14 @@ fn head_from(numbers: &[u32]) -> Option<Head>
     })
 }
 
-// Whether layer k, from 1 to 6, owns the label.
-fn owns(k: u32, label: u32) -> bool
-    requires { k ≤ 6 }
-    ensures { result ≡ owned k label }
-{
-    let first = LABELS + LABELS * k;
-    label >= first && label < first + LABELS
-}
-
 // What the numbers of a form's line declare, behind a form of the label `before`.
-fn form_from(k: u32, before: u32, numbers: &[u32]) -> Option<Form>
-    requires { k ≤ 6 }
+fn form_from(k: Layer, before: u32, numbers: &[u32]) -> Option<Form>
     ensures { result ≡ form_of k before numbers.now }
 {
     let [label, count] = *numbers else {
         return None;
     };
-    if !owns(k, label) || label <= before || count > MOST_CHILDREN {
+    if !k.owns(label) || label <= before || count > MOST_CHILDREN {
         return None;
     }
     Some(Form { label, count })
@@ -95,8 +86,12 @@ fn read_head(heap: Global, line: Piece<'_>) -> Result<Option<Head>, AllocError>
 }
 
 // The line of a form, behind a form of the label `before`.
-fn read_form(heap: Global, k: u32, before: u32, line: Piece<'_>) -> Result<Option<Form>, AllocError>
-    requires { k ≤ 6 }
+fn read_form(
+    heap: Global,
+    k: Layer,
+    before: u32,
+    line: Piece<'_>,
+) -> Result<Option<Form>, AllocError>
     ensures { IfOk result (λ f. f ≡ form_of_line k before (line_says line.entry)) }
 {
     match line_numbers(heap, line, Word::Form)? {
@@ -106,26 +101,25 @@ fn read_form(heap: Global, k: u32, before: u32, line: Piece<'_>) -> Result<Optio
 }
 
 // The header's lines behind its first: one for each form, and no more.
-fn read_forms(heap: Global, head: Head, text: &[u8]) -> Result<Vec<Form>, Refusal>
-    requires { head.layer ≤ 6 }
-    ensures { Answers vec_items (judge_forms head [] head.forms (readings text.now)) result }
+fn read_forms(heap: Global, layer: Layer, count: u32, text: &[u8]) -> Result<Vec<Form>, Refusal>
+    ensures { Answers vec_items (judge_forms layer [] count (readings text.now)) result }
 {
     let mut forms = Vec::new(heap);
     let mut rest = text;
     let mut before = 0;
-    for i in 0..head.forms {
+    for i in 0..count {
         let Some(line) = next_line(rest) else {
             return Err(Refusal::LineMissing(Place::Form(i)));
         };
-        let Some(form) = read_form(heap, head.layer, before, line)? else {
+        let Some(form) = read_form(heap, layer, before, line)? else {
             return Err(Refusal::LineBroken(Place::Form(i)));
         };
         forms.push(form)?;
         before = form.label;
-        rest = line.rest;
+        rest = line.rest();
     }
     match next_line(rest) {
-        Some(_) => Err(Refusal::LineExtra(Place::Form(head.forms))),
+        Some(_) => Err(Refusal::LineExtra(Place::Form(count))),
         None => Ok(forms),
     }
 }
@@ -140,6 +134,6 @@ pub(crate) fn read_header(heap: Global, text: &[u8]) -> Result<Header, Refusal>
     let Some(head) = read_head(heap, line)? else {
         return Err(Refusal::LineBroken(Place::Head));
     };
-    let forms = read_forms(heap, head, line.rest)?;
+    let forms = read_forms(heap, head.layer, head.forms, line.rest())?;
     Ok(Header { head, forms })
 }

@@ -5,6 +5,7 @@
 mod accept;
 mod faults;
 mod header;
+mod layer;
 pub mod list;
 pub mod parts;
 pub mod refusal;

@@ -4,12 +4,13 @@ ghost use Rattle.terms.specs.Words.{is_layer};
 ghost use Rattle.lists.specs.Lines.{all_sides};
 ghost use Rattle.lists.specs.Sound.{rising, all_shaped, all_linear, none_overlap, all_ruled};
 
+use crate::layer::Layer;
 use crate::parts::{Form, Rule};
 
 // An accepted list: its layer, its forms with their counts, and its rules. What the rules ask of a list holds of every value.
 #[derive(Drop)]
 pub struct RuleList {
-    pub(crate) layer: u32,
+    pub(crate) layer: Layer,
     pub(crate) forms: Vec<Form>,
     pub(crate) rules: Vec<Rule>,
     ghost layered: { is_layer layer ≡ true },

@@ -1,7 +1,5 @@
 // The parts of a rule list, as plain data.
-
-// Layer k owns LABELS labels, from LABELS + LABELS × k on.
-pub const LABELS: u32 = 32;
+use crate::layer::Layer;
 
 pub const MOST_RULES: u32 = 32;
 
@@ -20,9 +18,9 @@ pub struct Rule {
 }
 
 // What the header's first line declares: the layer, how many forms, how many rules.
-#[derive(Clone, Copy)]
+#[derive(Drop)]
 pub(crate) struct Head {
-    pub layer: u32,
+    pub layer: Layer,
     pub forms: u32,
     pub rules: u32,
 }

@@ -1,10 +1,11 @@
 // The two sides of a rule: their shape, their variables, and where two left sides overlap.
-ghost use Rattle.std.specs.Prelude.{◌≡◌, ◌≤◌, ◌&&◌, ◌==◌};
+ghost use Rattle.std.specs.Prelude.{◌≡◌, ◌&&◌, ◌==◌};
 ghost use Rattle.terms.specs.Words.{node_of};
 ghost use Rattle.lists.specs.Lines.{sides_of};
 ghost use Rattle.lists.specs.Sides.{any, every, is_atom, is_variable, is_lower_form, is_argument, on_right, form_word, left_shaped, right_shaped, shaped, holds, repeated, once_each, bound, linear, clash, agree, overlapping, is_for};
 
-use crate::parts::{Form, LABELS, Rule};
+use crate::layer::Layer;
+use crate::parts::{Form, Rule};
 use terms::front::is_tree;
 use terms::words::{LABEL_UNIT, Node, decode};
 
@@ -27,12 +28,11 @@ fn is_variable(word: u32) -> bool
 }
 
 // A form whose label is below those of layer k.
-fn is_lower_form(k: u32, word: u32) -> bool
-    requires { k ≤ 6 }
+fn is_lower_form(k: Layer, word: u32) -> bool
     ensures { result ≡ is_lower_form k (node_of word) }
 {
     match decode(word) {
-        Some(Node::Form { label, .. }) => label < LABELS + LABELS * k,
+        Some(Node::Form { label, .. }) => label < k.first_label(),
         _ => false,
     }
 }
@@ -44,8 +44,7 @@ fn is_argument(word: u32) -> bool
 }
 
 // A word that may stand on a right side.
-fn stands_right(k: u32, word: u32) -> bool
-    requires { k ≤ 6 }
+fn stands_right(k: Layer, word: u32) -> bool
     ensures { result ≡ on_right k word }
 {
     is_argument(word) || is_lower_form(k, word)
@@ -62,8 +61,7 @@ fn all_arguments(words: &[u32]) -> bool
     true
 }
 
-fn all_stand_right(k: u32, words: &[u32]) -> bool
-    requires { k ≤ 6 }
+fn all_stand_right(k: Layer, words: &[u32]) -> bool
     ensures { result ≡ every (on_right k) words.now }
 {
     for word in words {
@@ -109,8 +107,7 @@ fn is_left_shaped(forms: &[Form], left: &[u32]) -> bool
     }
 }
 
-fn is_right_shaped(k: u32, right: &[u32]) -> bool
-    requires { k ≤ 6 }
+fn is_right_shaped(k: Layer, right: &[u32]) -> bool
     ensures { result ≡ right_shaped k right.now }
 {
     match right.split_first() {
@@ -207,8 +204,7 @@ pub(crate) fn overlap(this: &Rule, that: &Rule) -> bool
 }
 
 // Whether both sides of a rule have their shape.
-pub(crate) fn is_shaped(k: u32, forms: &[Form], rule: &Rule) -> bool
-    requires { k ≤ 6 }
+pub(crate) fn is_shaped(k: Layer, forms: &[Form], rule: &Rule) -> bool
     ensures { result ≡ shaped k forms.now (sides_of rule.now) }
 {
     is_left_shaped(forms, &rule.left) && is_right_shaped(k, &rule.right)

@@ -6,10 +6,11 @@ ghost use Rattle.texts.specs.Pieces.{line_says};
 ghost use Rattle.lists.specs.Lines.{Answers, table_of, table_of_line, word_at, words_of, FieldsOf, rule_of, rule_of_line, sides_of, all_sides, judge_rules, judge_table};
 
 use crate::header::line_numbers;
+use crate::layer::Layer;
 use crate::parts::{Head, MOST_RULES, Rule};
 use crate::refusal::{Place, Refusal};
 use std::alloc::{AllocError, Global};
-use terms::words::{FIRST_LAYER, LABEL_UNIT, LAST_LABEL, LAST_LAYER};
+use terms::words::{LABEL_UNIT, LAST_LABEL};
 use texts::text::{Piece, Word, next_line};
 
 const MOST_LEFT: u32 = 9;
@@ -17,20 +18,23 @@ const MOST_LEFT: u32 = 9;
 const MOST_RIGHT: u32 = 64;
 
 // The layer and the number of rules that the table's first line declares.
-fn table_from(numbers: &[u32]) -> Option<(u32, u32)>
+fn table_from(numbers: &[u32]) -> Option<(Layer, u32)>
     ensures { result ≡ table_of numbers.now }
 {
     let [layer, rules] = *numbers else {
         return None;
     };
-    if layer < FIRST_LAYER || layer > LAST_LAYER || rules < 1 || rules > MOST_RULES {
+    let Ok(layer) = Layer::try_from(layer) else {
+        return None;
+    };
+    if rules < 1 || rules > MOST_RULES {
         return None;
     }
     Some((layer, rules))
 }
 
 // The table's first line.
-fn read_table_line(heap: Global, line: Piece<'_>) -> Result<Option<(u32, u32)>, AllocError>
+fn read_table_line(heap: Global, line: Piece<'_>) -> Result<Option<(Layer, u32)>, AllocError>
     ensures { IfOk result (λ t. t ≡ table_of_line (line_says line.entry)) }
 {
     match line_numbers(heap, line, Word::Table)? {
@@ -125,7 +129,7 @@ fn read_rules(heap: Global, count: u32, text: &[u8]) -> Result<Vec<Rule>, Refusa
             return Err(Refusal::LineBroken(Place::Rule(k)));
         };
         rules.push(rule)?;
-        rest = line.rest;
+        rest = line.rest();
     }
     match next_line(rest) {
         Some(_) => Err(Refusal::LineExtra(Place::Rule(count))),
@@ -134,17 +138,18 @@ fn read_rules(heap: Global, count: u32, text: &[u8]) -> Result<Vec<Rule>, Refusa
 }
 
 // Reads a whole table, behind a header with this first line.
-pub(crate) fn read_table(heap: Global, head: Head, text: &[u8]) -> Result<Vec<Rule>, Refusal>
-    ensures { Answers all_sides (judge_table head (readings text.now)) result }
+pub(crate) fn read_table(heap: Global, head: &Head, text: &[u8]) -> Result<Vec<Rule>, Refusal>
+    ensures { Answers all_sides (judge_table head.now (readings text.now)) result }
 {
     let Some(line) = next_line(text) else {
         return Err(Refusal::LineMissing(Place::Table));
     };
-    let Some((layer, rules)) = read_table_line(heap, line)? else {
+    let Some(declared) = read_table_line(heap, line)? else {
         return Err(Refusal::LineBroken(Place::Table));
     };
+    let (layer, rules) = declared;
     if layer != head.layer || rules != head.rules {
         return Err(Refusal::TableDiffers);
     }
-    read_rules(heap, head.rules, line.rest)
+    read_rules(heap, head.rules, line.rest())
 }

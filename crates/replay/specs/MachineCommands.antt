@@ -7,7 +7,7 @@ use Rattle.replay.specs.declared.machine_command.MachineCommand.TheVariants.{Loa
 use Rattle.replay.specs.declared.machine_command.MachineMisread.{MachineMisread}
 use Rattle.replay.specs.declared.machine_command.MachineMisread.TheVariants.{WrongWords, NoCore, NoNumber}
 use Rattle.replay.specs.declared.machine_command.Core.TheVariants.{Logic, Sequence}
-use Rattle.replay.specs.Numbers.{number_of}
+use Rattle.texts.specs.Numbers.{number_of}
 use Rattle.replay.specs.Commands.{words_of}
 
 abbrev pub OneOf : List (List ℕ) → Option (Bor (List ℕ)) → Type 0

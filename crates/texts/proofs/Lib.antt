@@ -1,6 +1,7 @@
 pub mod Answering
 pub mod Cutting
 pub mod Firsts
+pub mod Yielding
 pub mod Numbering
 pub mod Digited
 pub mod Parted

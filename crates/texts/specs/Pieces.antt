@@ -1,5 +1,6 @@
 -- The first piece of a text, and what is behind it.
-use Rattle.std.specs.Prelude.{◌≡◌, ℕ, List, [], ◌∷◌, ◌++◌, Some, None, codes, MatchBool, Option, ◌≢◌}
+use Rattle.std.specs.Prelude.{◌≡◌, ℕ, List, [], ◌∷◌, ◌++◌, Some, None, codes, Option, ◌≢◌}
+use Rattle.std.specs.Option.{MatchOption, is_some}
 use Rattle.texts.specs.declared.text.Piece.{Piece}
 use Rattle.texts.specs.Texts.{Reading, pieces, numbered, reading, readings, head_line, form_line, table_line, rule_line, broken_line}
 use Rattle.texts.specs.declared.text.Line.{Line}
@@ -7,19 +8,23 @@ use Rattle.texts.specs.declared.text.Line.TheVariants as line
 use Rattle.texts.specs.declared.text.Word.{Word}
 use Rattle.texts.specs.declared.text.Word.TheVariants.{Head, Form, Table, Rule}
 
--- p is the text's first piece; the others are the pieces of the rest, if a separator ended the first, else there are none
+-- p is the text's first piece; the others are the pieces of what stands behind it, if a separator ended the first, else there are none
 pub record FirstPiece (sep : ℕ) (text : List ℕ) (p : Piece) : Type 0 where
-  pub pieces_are : MatchBool p.ended (pieces sep text ≡ p.bytes.now ∷ pieces sep p.rest.now) (pieces sep text ≡ p.bytes.now ∷ [])
-  pub stretch : MatchBool p.ended (text ≡ p.bytes.now ++ sep ∷ p.rest.now) ((text ≡ p.bytes.now) × (p.rest.now ≡ []))
+  pub pieces_are : MatchOption p.behind (pieces sep text ≡ p.bytes.now ∷ []) (λ rest. pieces sep text ≡ p.bytes.now ∷ pieces sep rest.now)
+  pub stretch : MatchOption p.behind (text ≡ p.bytes.now) (λ rest. text ≡ p.bytes.now ++ sep ∷ rest.now)
 
 -- what the line that a piece is says
 abbrev pub line_says : Piece → Reading
-line_says p = reading (record { bytes = p.bytes.now; ended = p.ended })
+line_says p = reading (record { bytes = p.bytes.now; ended = is_some p.behind })
+
+-- the text behind a piece: nothing where the text ends
+abbrev pub rest_of : Piece → List ℕ
+rest_of p = elim p.behind [ None ↦ [] | Some rest ↦ rest.now ]
 
 -- p is the text's next line, a stretch of the text, with the text's other lines behind it; none at the text's end
 abbrev pub NextLine : List ℕ → Option Piece → Type 0
 NextLine text None = readings text ≡ []
-NextLine text (Some p) = (readings text ≡ line_says p ∷ readings p.rest.now) × MatchBool p.ended (text ≡ p.bytes.now ++ 10 ∷ p.rest.now) ((text ≡ p.bytes.now) × (p.rest.now ≡ []))
+NextLine text (Some p) = (readings text ≡ line_says p ∷ readings (rest_of p)) × MatchOption p.behind (text ≡ p.bytes.now) (λ rest. text ≡ p.bytes.now ++ 10 ∷ rest.now)
 
 -- which word five bytes begin with: none is the other case
 abbrev pub Begins : List ℕ → Option Word → Type 0

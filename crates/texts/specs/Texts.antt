@@ -1,5 +1,7 @@
 -- A text as lines and fields: where they are cut, what a number field is worth, and what a line says.
-use Rattle.std.specs.Prelude.{ℕ, ◌+◌, ◌-◌, ◌*◌, Bool, true, false, cond, ◌&&◌, List, [], ◌∷◌, map, length, Some, None, codes, Option, ◌==◌, nat_le}
+use Rattle.std.specs.Prelude.{ℕ, Bool, true, false, cond, List, [], ◌∷◌, map, length, Some, None, codes, Option, ◌==◌, nat_le}
+use Rattle.std.specs.List.{slice_split}
+use Rattle.texts.specs.Numbers.{digits_of, number_of}
 use Rattle.texts.specs.declared.text.Separator.{Separator}
 use Rattle.texts.specs.declared.text.Separator.TheVariants.{LineEnd, Comma}
 
@@ -8,16 +10,9 @@ abbrev pub byte_of : Separator → ℕ
 byte_of LineEnd = 10
 byte_of Comma = 44
 
--- one more byte in front of the first piece
-unfoldable pub grown : ℕ → List (List ℕ) → List (List ℕ)
-grown b [] = (b ∷ []) ∷ []
-grown b (p ∷ ps) = (b ∷ p) ∷ ps
-
 -- the pieces of a text that stand between separators: one more than it has separators
 unfoldable pub pieces : ℕ → List ℕ → List (List ℕ)
-unfolding grown
-pieces sep [] = [] ∷ []
-pieces sep (b ∷ bs) = elim (b == sep) [ true ↦ [] ∷ pieces sep bs | false ↦ grown b (pieces sep bs) ]
+pieces sep text = slice_split (λ b. b == sep) text
 
 -- a line's bytes, and whether byte 10 ends it
 pub record TextLine : Type 0 where
@@ -35,20 +30,10 @@ unfoldable pub lines : List ℕ → List TextLine
 unfolding lines_of pieces
 lines text = lines_of (pieces 10 text)
 
--- the value of a digit
-abbrev pub digit_of : ℕ → Option ℕ
-digit_of b = cond (nat_le 48 b && nat_le b 57) (Some (b - 48)) None
-
--- the value of digits that stand behind digits of value v, while it stays within 16,777,215: more digits never lower it
-unfoldable pub digits : ℕ → List ℕ → Option ℕ
-digits v [] = Some v
-digits v (b ∷ bs) = elim (digit_of b) [ None ↦ None | Some d ↦ elim (nat_le (v * 10 + d) 16777215) [ true ↦ digits (v * 10 + d) bs | false ↦ None ] ]
-
 -- a number field: 1 to 8 digits, with a value up to 16,777,215
 unfoldable pub number : List ℕ → Option ℕ
-unfolding digits
-number [] = None
-number (b ∷ bs) = cond (nat_le (length bs) 7) (digits 0 (b ∷ bs)) None
+unfolding digits_of
+number field = cond (nat_le (length field) 8) (number_of 16777215 field) None
 
 -- the numbers of fields that are all number fields
 unfoldable pub numbers : List (List ℕ) → Option (List ℕ)

@@ -1,50 +1,61 @@
-// Number fields: 1 to 8 digits, with a value up to the largest payload.
+// Numbers in base ten, and number fields: 1 to 8 digits, with a value up to the largest payload.
 ghost use Rattle.std.specs.Prelude.{◌≡◌, IfOk, vec_items};
 ghost use Rattle.std.specs.Option.{option_map};
-ghost use Rattle.texts.specs.Texts.{digit_of, digits, number, numbers, pieces};
+ghost use Rattle.texts.specs.Numbers.{with_digit, digits_of, number_of};
+ghost use Rattle.texts.specs.Texts.{number, numbers, pieces};
 
-use crate::text::{Separator, cut};
+use crate::text::Separator;
 use std::alloc::{AllocError, Global};
+
+const TEN: u64 = 10;
 
 const MOST_DIGITS: usize = 8;
 
 const LARGEST: u32 = 16_777_215;
 
-// The value of a digit.
-fn digit(byte: u8) -> Option<u32>
-    ensures { result ≡ digit_of byte }
+// The value with one more digit behind it; none if the byte is no digit or the value passes `most`.
+fn with_digit(value: u32, byte: u8, most: u32) -> Option<u32>
+    ensures { result ≡ with_digit most value byte }
 {
-    match byte as char {
-        '0'..='9' => Some(u32::from(byte - b'0')),
-        _ => None,
+    let digit = match byte as char {
+        '0'..='9' => u64::from(byte - b'0'),
+        _ => return None,
+    };
+    let next = u64::from(value) * TEN + digit;
+    if next > u64::from(most) {
+        return None;
     }
+    Some(next as u32)
 }
 
-// The value of digits, as long as it stays within the largest.
-fn digits_value(bytes: &[u8]) -> Option<u32>
-    ensures { result ≡ digits 0 bytes.now }
+fn digits_value(digits: &[u8], most: u32) -> Option<u32>
+    ensures { result ≡ digits_of most 0 digits.now }
 {
     let mut value: u32 = 0;
-    for byte in bytes {
-        value = value * 10 + digit(*byte)?;
-        if value > LARGEST {
-            return None;
-        }
+    for byte in digits {
+        value = with_digit(value, *byte, most)?;
     }
     Some(value)
 }
 
-// The value of a number field; none if the bytes are no number field.
-pub(crate) fn read_number(field: &[u8]) -> Option<u32>
-    ensures { result ≡ number field.now }
+// The number that the bytes spell with digits alone, one or more, if it is at most `most`.
+pub fn number(digits: &[u8], most: u32) -> Option<u32>
+    ensures { result ≡ number_of most digits.now }
 {
-    if field.is_empty() {
+    if digits.is_empty() {
         return None;
     }
+    digits_value(digits, most)
+}
+
+// The value of a number field; none if the bytes are no number field.
+fn read_number(field: &[u8]) -> Option<u32>
+    ensures { result ≡ number field.now }
+{
     if field.len() > MOST_DIGITS {
         return None;
     }
-    digits_value(field)
+    number(field, LARGEST)
 }
 
 // The values of the fields of a line behind its first; none if one of them is no number field.
@@ -52,16 +63,11 @@ pub fn read_numbers(heap: Global, fields: &[u8]) -> Result<Option<Vec<u32>>, All
     ensures { IfOk result (λ v. option_map vec_items v ≡ numbers (pieces 44 fields.now)) }
 {
     let mut values = Vec::new(heap);
-    let mut rest = fields;
-    loop {
-        let field = cut(rest, Separator::Comma);
-        let Some(value) = read_number(field.bytes) else {
+    for field in fields.split(|byte| Separator::Comma.is_at(*byte)) {
+        let Some(value) = read_number(field) else {
             return Ok(None);
         };
         values.push(value)?;
-        if !field.ended {
-            return Ok(Some(values));
-        }
-        rest = field.rest;
     }
+    Ok(Some(values))
 }

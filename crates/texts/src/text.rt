@@ -1,8 +1,8 @@
 // Cuts a text into lines and a line into fields, as stretches of the text itself.
-ghost use Rattle.std.specs.Prelude.{◌≡◌, ℕ, ◌<◌, ◌≤◌, length, Some, None, codes, ◌==◌, ◌≢◌, slice_index};
+ghost use Rattle.std.specs.Prelude.{◌≡◌, ◌<◌, length, Some, None, codes, ◌==◌};
 ghost use Rattle.std.specs.Option.{option_map};
 ghost use Rattle.texts.specs.Texts.{byte_of, behind, said};
-ghost use Rattle.texts.specs.Pieces.{FirstPiece, NextLine, Begins, line_says, line_means};
+ghost use Rattle.texts.specs.Pieces.{FirstPiece, NextLine, Begins, rest_of, line_says, line_means};
 
 // What parts a text: byte 10 its lines, a comma the fields of a line.
 #[derive(Clone, Copy)]
@@ -12,7 +12,7 @@ pub(crate) enum Separator {
 }
 
 impl Separator {
-    fn is_at(self, byte: u8) -> bool
+    pub(crate) fn is_at(self, byte: u8) -> bool
         ensures { result ≡ (byte == byte_of self) }
     {
         match (self, byte as char) {
@@ -23,46 +23,36 @@ impl Separator {
     }
 }
 
-// The first piece of a text, up to a separator or the end, and what stands behind it.
+// The first piece of a text, up to a separator or the end.
 #[derive(Clone, Copy)]
 pub struct Piece<'a> {
     pub bytes: &'a [u8],
-    // whether a separator ended the piece
-    pub ended: bool,
-    pub rest: &'a [u8],
+    // what stands behind the separator that ended the piece; none where the text ends
+    pub behind: Option<&'a [u8]>,
 }
 
-// How many bytes stand before the first separator.
-fn piece_len(text: &[u8], separator: Separator) -> usize
-    ensures within { result ≤ length text.now }
-    ensures before { (k : ℕ) → k < result → slice_index text.now k ≢ byte_of separator }
-    ensures at { result < length text.now → slice_index text.now result ≡ byte_of separator }
-{
-    for (i, byte) in text.iter().enumerate() {
-        if separator.is_at(*byte) {
-            return i;
-        }
+impl<'a> Piece<'a> {
+    // The text behind the piece: nothing where the text ends.
+    pub fn rest(self) -> &'a [u8]
+        ensures { result.now ≡ rest_of self.entry }
+    {
+        self.behind.unwrap_or_default()
     }
-    text.len()
 }
 
 // Cuts the first piece off a text.
-pub(crate) fn cut(text: &[u8], separator: Separator) -> Piece<'_>
+fn cut(text: &[u8], separator: Separator) -> Piece<'_>
     ensures { FirstPiece (byte_of separator) text.now result }
 {
-    let size = piece_len(text, separator);
-    let bytes = &text[0..size];
-    if size == text.len() {
-        return Piece {
-            bytes,
-            ended: false,
-            rest: &text[size..],
-        };
-    }
-    Piece {
-        bytes,
-        ended: true,
-        rest: &text[size + 1..],
+    match text.iter().position(|byte| separator.is_at(*byte)) {
+        Some(size) => Piece {
+            bytes: &text[..size],
+            behind: Some(&text[size + 1..]),
+        },
+        None => Piece {
+            bytes: text,
+            behind: None,
+        },
     }
 }
 
@@ -142,9 +132,8 @@ fn field_of(bytes: &[u8]) -> Option<Line<'_>>
 pub fn first_field(line: Piece<'_>) -> Option<Line<'_>>
     ensures { line_means result ≡ line_says line.entry }
 {
-    if line.ended {
-        field_of(line.bytes)
-    } else {
-        None
+    match line.behind {
+        Some(_) => field_of(line.bytes),
+        None => None,
     }
 }

@@ -7,4 +7,4 @@ abbrev pub invariant-loop-i : goal.invariant-loop-i
 invariant-loop-i l =
     (length (vec_items l.forms) ≡ l.i)
     × (last_label (vec_items l.forms) ≡ l.before)
-    × (judge_forms l.head (vec_items l.forms) (l.head.forms - l.i) (readings l.rest) ≡ judge_forms l.head [] l.head.forms (readings l.text))
+    × (judge_forms l.layer (vec_items l.forms) (l.count - l.i) (readings l.rest) ≡ judge_forms l.layer [] l.count (readings l.text))

@@ -1,6 +1,7 @@
-use Rattle.std.proofs.Common.{sym, ap, ◌∙◌, inl, inr, ⊎_elim}
+use Rattle.std.proofs.Common.{[], sym, ap, ◌∙◌, inl, inr, ⊎_elim}
 use Rattle.std.proofs.lemmas.Result.{err_from_is_err_and}
-use Rattle.lists.specs.Lines.{with_forms, declared_by}
+use Rattle.texts.specs.Texts.{readings}
+use Rattle.lists.specs.Lines.{judge_forms, with_forms, declared_by}
 use Rattle.lists.proofs.Judging.{no_header, bad_header, header_is, passed_on}
 use Rattle.lists.proofs.header.read_header.Goals as goal
 
@@ -12,11 +13,11 @@ returns-in_default-2 c = inr (bad_header _ _ _ c.in-Some.ensures.0 (sym c.in_ok-
 
 pub returns-in_err-forms : goal.returns-in_err-forms
 returns-in_err-forms c =
-    let head = header_is _ _ _ c.in-Some.ensures.0 c.in-Some-2.head (sym c.in_ok-head.ensures ∙ c.in-Some-2.is) in
+    let head = header_is _ _ _ c.in-Some.ensures.0 c.in-Some-2.head (sym c.in_ok-head.ensures ∙ c.in-Some-2.is) ∙ ap (λ t. with_forms c.in-Some-2.head (judge_forms c.in-Some-2.head.layer [] c.in-Some-2.head.forms (readings t))) (sym c.rest.ensures) in
     let p = err_from_is_err_and c.from_residual-in_err-forms.result c.from_residual-in_err-forms.ensures.1 in
     passed_on declared_by _ _ _ _ p.1 p.2 (⊎_elim inl (λ e. inr (head ∙ ap (with_forms c.in-Some-2.head) e)) c.in_err-forms.ensures)
 
 pub returns : goal.returns
 returns c =
-    let head = header_is _ _ _ c.in-Some.ensures.0 c.in-Some-2.head (sym c.in_ok-head.ensures ∙ c.in-Some-2.is) in
+    let head = header_is _ _ _ c.in-Some.ensures.0 c.in-Some-2.head (sym c.in_ok-head.ensures ∙ c.in-Some-2.is) ∙ ap (λ t. with_forms c.in-Some-2.head (judge_forms c.in-Some-2.head.layer [] c.in-Some-2.head.forms (readings t))) (sym c.rest.ensures) in
     head ∙ ap (with_forms c.in-Some-2.head) c.in_ok-forms.ensures

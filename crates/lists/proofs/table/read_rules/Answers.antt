@@ -1,4 +1,4 @@
-use Rattle.std.proofs.Common.{◌+◌, ◌-◌, map, length, vec_items, sym, refl, ap, ◌∙◌, inr, arith}
+use Rattle.std.proofs.Common.{[], ◌∷◌, ◌++◌, ◌+◌, ◌-◌, map, length, vec_items, sym, refl, ap, ◌∙◌, inr, arith}
 use native.Mathlib.Nat.{sub-zero}
 use Rattle.std.specs.Option.{option_map}
 use Rattle.std.proofs.lemmas.List.{length_push, map_push}
@@ -27,7 +27,8 @@ loop-k-preserved c =
     let items = ap (map sides_of) c.in_ok-push.ensures.items ∙ map_push sides_of (vec_items c.loop-k.rules) c.in-Some-2.rule in
     let said = ap (λ n. rule_of_line n (line_says c.in-Some.line)) c.loop-k.invariant.0 ∙ sym c.in_ok-rule.ensures ∙ ap (option_map sides_of) c.in-Some-2.is in (
       ap length items ∙ length_push _ _ ∙ ap (λ n. n + 1) c.loop-k.invariant.0,
-      ap (λ l. judge_rules l (c.args.count - (c.loop-k.k + 1)) (readings c.in-Some.line.rest.now)) items
+      ap (λ l. judge_rules l (c.args.count - (c.loop-k.k + 1)) (readings c.rest-rest.result.now)) items
+          ∙ ap (λ t. judge_rules (map sides_of (vec_items c.loop-k.rules) ++ sides_of c.in-Some-2.rule ∷ []) (c.args.count - (c.loop-k.k + 1)) (readings t)) c.rest-rest.ensures
           ∙ sym (line_read _ _ _ _ c.loop-k.invariant.0 _ _ _ _ _ _ (omega arith) c.in-Some.ensures.0 said) ∙ c.loop-k.invariant.1,
     )
 

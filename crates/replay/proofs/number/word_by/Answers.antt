@@ -1,5 +1,6 @@
 use Rattle.std.proofs.Common.{sym, ◌∙◌}
-use Rattle.replay.proofs.Digits.{number_within, label_fits, word_fits, no_label, no_payload, both_numbers}
+use Rattle.texts.proofs.Digited.{number_within}
+use Rattle.replay.proofs.Digits.{label_fits, word_fits, no_label, no_payload, both_numbers}
 use Rattle.replay.proofs.number.word_by.Goals as goal
 
 pub returns-in_err-label : goal.returns-in_err-label

@@ -1,4 +1,3 @@
-use Rattle.std.proofs.Common.{refl}
 use Rattle.lists.specs.Sides.{every}
 use Rattle.lists.specs.Sound.{rising_from, none_overlap_from}
 use Rattle.lists.proofs.list.RuleList.new.Goals as goal
@@ -8,4 +7,4 @@ unfolding every rising_from none_overlap_from
 invariant_of-result c =
     let forms = c.new.ensures.items in
     let rules = c.new-2.ensures.items in
-    record { layered = refl; rising = simp forms; shaped = simp rules; linear = simp rules; apart = simp rules; ruled = simp forms }
+    record { layered = simp c.first.ensures; rising = simp forms; shaped = simp rules; linear = simp rules; apart = simp rules; ruled = simp forms }

@@ -1,6 +1,0 @@
-use Rattle.std.proofs.Common.{◌≡◌, drop}
-use Rattle.replay.specs.Numbers.{digits_of}
-use Rattle.replay.proofs.number.digits_value.Given as goal
-
-abbrev pub invariant-loop-byte : goal.invariant-loop-byte
-invariant-loop-byte l = digits_of l.most l.value (drop l.byte-index l.bytes) ≡ digits_of l.most 0 l.bytes
