@@ -1,4 +1,4 @@
-mod Digits
+mod Reading
 mod Planning
 mod Shown
 mod Spaced

@@ -4,7 +4,7 @@ use Rattle.std.specs.declared.fmt.Formatter.{Formatter}
 use Rattle.std.specs.Fmt.{IsPlainFormatter, HasWritten}
 use Rattle.std.proofs.Output.{writes_in_calls_nil}
 use Rattle.std.proofs.lemmas.List.{take_more}
-use Rattle.terms.specs.Words as terms
+use Rattle.terms.specs.Spelled as terms
 use Rattle.replay.specs.Panel.{word_text, behind_text, term_text}
 
 -- the text of a word, by its parts

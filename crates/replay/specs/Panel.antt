@@ -1,6 +1,6 @@
 -- What the account says of a term that is shown.
 use Rattle.std.specs.Prelude.{ℕ, ◌/◌, ◌%◌, List, [], ◌∷◌, ◌++◌, codes}
-use Rattle.terms.specs.Words as terms
+use Rattle.terms.specs.Spelled as terms
 
 -- a word is written as label:payload
 abbrev pub word_text : ℕ → List ℕ

@@ -4,9 +4,9 @@ ghost use Rattle.replay.specs.Commands.{words_of};
 ghost use Rattle.replay.specs.MachineCommands.{OneOf, NamesNoMachineCommand, AsksMachine};
 
 use crate::command::{is_blank, next_word};
-use crate::number::number;
 use languages::language::SHOWN_WORDS;
 use std::fmt;
+use texts::number::number;
 
 const LAST_IMAGE: u32 = 4_294_967_295;
 // The longest buffer that the program lends for a show.
@@ -89,7 +89,7 @@ fn parse_step(words: &str) -> Result<MachineCommand<'_>, MachineMisread<'_>>
             usage: "step IMAGE",
         });
     };
-    match number(word, LAST_IMAGE) {
+    match number(word.as_bytes(), LAST_IMAGE) {
         Some(image) => Ok(MachineCommand::Step { image }),
         None => Err(MachineMisread::NoNumber(word)),
     }
@@ -108,7 +108,7 @@ fn parse_show(words: &str) -> Result<MachineCommand<'_>, MachineMisread<'_>>
             usage: "show or show LENGTH",
         });
     };
-    match number(word, LONGEST_BUFFER) {
+    match number(word.as_bytes(), LONGEST_BUFFER) {
         Some(length) => Ok(MachineCommand::Show {
             length: length as usize,
         }),

@@ -6,7 +6,6 @@ mod account;
 mod command;
 mod job;
 mod machine_command;
-mod number;
 mod panel;
 mod plan;
 mod print;

@@ -4,8 +4,8 @@ ghost use Rattle.replay.specs.Commands.{words_of};
 ghost use Rattle.replay.specs.Numbers.{Spell, NoWordFirst};
 
 use crate::command::next_word;
-use crate::number::word;
 use std::alloc::{AllocError, Global};
+use terms::word::Word;
 
 // The words that the text spells, each as label:payload; or the first of its words that is no such word.
 pub fn read_words<'a>(heap: Global, text: &'a str) -> Result<Result<Vec<u32>, &'a str>, AllocError>
@@ -14,10 +14,10 @@ pub fn read_words<'a>(heap: Global, text: &'a str) -> Result<Result<Vec<u32>, &'
     let mut words = Vec::new(heap);
     let mut rest = text;
     while let Some((first, behind)) = next_word(rest) {
-        let Some(value) = word(first) else {
+        let Ok(word) = first.parse::<Word>() else {
             return Ok(Err(first));
         };
-        words.push(value)?;
+        words.push(u32::from(word))?;
         rest = behind;
     }
     Ok(Ok(words))

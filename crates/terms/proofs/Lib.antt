@@ -9,3 +9,4 @@ pub mod Fillings
 pub mod Longer
 pub mod Verdicts
 pub mod Children
+mod Colons

@@ -1,4 +1,5 @@
 pub mod Words
+pub mod Spelled
 pub mod Trees
 pub mod Fronts
 pub mod Laws

@@ -1,5 +1,5 @@
 -- One word: its label and payload, and the node that it stands for.
-use Rattle.std.specs.Prelude.{ℕ, ◌+◌, ◌*◌, ◌/◌, ◌%◌, Bool, cond, ◌&&◌, List, ◌++◌, codes, decimal, Some, None, Option, ◌==◌, nat_le, nat_lt}
+use Rattle.std.specs.Prelude.{ℕ, ◌+◌, ◌*◌, ◌/◌, ◌%◌, Bool, cond, ◌&&◌, Some, None, Option, ◌==◌, nat_le, nat_lt}
 use Rattle.terms.specs.declared.words.Node.{Node}
 use Rattle.terms.specs.declared.words.Node.TheVariants.{Atom, Variable, Body, Head, Form}
 
@@ -9,10 +9,6 @@ word label payload = label * 16777216 + payload
 -- a label, 0 to 255, and a payload, 0 to 16,777,215
 abbrev pub is_parts : ℕ → ℕ → Bool
 is_parts label payload = nat_le label 255 && nat_le payload 16777215
-
--- a word is written as label:payload
-abbrev pub word_text : ℕ → ℕ → List ℕ
-word_text label payload = decimal label ++ (codes ":" ++ decimal payload)
 
 -- a layer's number
 abbrev pub is_layer : ℕ → Bool

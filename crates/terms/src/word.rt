@@ -1,8 +1,12 @@
 // A word by its parts: its label and its payload.
-ghost use Rattle.std.specs.Prelude.{◌≡◌, ◌/◌, ◌%◌, ◌<◌, false, Some, MatchOption};
-ghost use Rattle.terms.specs.Words.{word, is_parts, word_text};
+ghost use Rattle.std.specs.Prelude.{◌≡◌, ◌/◌, ◌%◌, ◌<◌, false, Some, None, MatchOption, MatchResult};
+ghost use Rattle.texts.specs.Numbers.{number_of};
+ghost use Rattle.terms.specs.Words.{word, is_parts};
+ghost use Rattle.terms.specs.Spelled.{word_text, word_by, word_of};
 
 use std::fmt;
+use std::str::FromStr;
+use texts::number::number;
 
 // A word is label × LABEL_UNIT + payload.
 pub const LABEL_UNIT: u32 = 16_777_216;
@@ -58,5 +62,33 @@ impl fmt::Display for Word {
         let label = self.label;
         let payload = self.payload;
         write!(f, "{label}:{payload}")
+    }
+}
+
+// The text is no word.
+#[derive(Clone, Copy, Debug, PartialEq, Eq)]
+pub struct NoWord;
+
+// The word of a label and a payload, which the texts spell.
+fn word_by(label: &str, payload: &str) -> Option<Word>
+    ensures { MatchOption result (word_by (number_of 255 label.now) (number_of 16777215 payload.now) ≡ None) (λ w. word_by (number_of 255 label.now) (number_of 16777215 payload.now) ≡ Some (word w.label w.payload)) }
+{
+    Some(Word {
+        label: number(label.as_bytes(), LAST_LABEL)?,
+        payload: number(payload.as_bytes(), LAST_PAYLOAD)?,
+    })
+}
+
+// A word is read as label:payload.
+impl FromStr for Word {
+    type Err = NoWord;
+
+    ghost from_str_gives = { λ text r. MatchResult r (λ w. word_of text ≡ Some (word w.label w.payload)) (λ _. word_of text ≡ None) };
+
+    fn from_str(text: &str) -> Result<Word, NoWord> {
+        let Some((label, payload)) = text.split_once(':') else {
+            return Err(NoWord);
+        };
+        word_by(label, payload).ok_or(NoWord)
     }
 }

@@ -2,7 +2,7 @@ use denote.Text.{Utf8}
 use denote.Shadow.{shadow}
 use Rattle.std.proofs.Common.{length, vec_items}
 use Rattle.replay.specs.Commands.{words_of}
-use Rattle.replay.proofs.Digits.{Read}
+use Rattle.replay.proofs.Reading.{Read}
 use Rattle.replay.proofs.words.read_words.Given as goal
 
 abbrev pub invariant-loop-first : goal.invariant-loop-first
