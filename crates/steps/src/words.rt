@@ -1,6 +1,8 @@
 // Words written as label:payload with spaces between them, and terms of a given length.
 use std::alloc::{AllocError, Global};
-use terms::words::LABEL_UNIT;
+use terms::word::Word;
+
+const NUMBER: u32 = 0;
 
 const SEQ: u32 = 32;
 
@@ -11,23 +13,14 @@ const REPEAT: u32 = 36;
 const NOP: u32 = 38;
 
 fn word(label: u32, payload: u32) -> u32 {
-    label.wrapping_mul(LABEL_UNIT).wrapping_add(payload)
-}
-
-fn number(text: &str) -> u32 {
-    match text.parse() {
-        Ok(value) => value,
-        Err(_) => 0,
-    }
+    Word::new(label, payload).map_or(0, u32::from)
 }
 
 // The words of a text.
 pub fn spelled(heap: Global, text: &str) -> Result<Vec<u32>, AllocError> {
     let mut words = Vec::new(heap);
-    for part in text.split(' ') {
-        if let Some((label, payload)) = part.split_once(':') {
-            words.push(word(number(label), number(payload)))?;
-        }
+    for word in text.split(' ').filter_map(|part| part.parse::<Word>().ok()) {
+        words.push(u32::from(word))?;
     }
     Ok(words)
 }
@@ -41,7 +34,7 @@ pub fn chain(heap: Global, length: usize) -> Result<Vec<u32>, AllocError> {
     }
     if length % 2 == 0 {
         words.push(word(SET, 1))?;
-        words.push(word(0, 1))?;
+        words.push(word(NUMBER, 1))?;
     } else {
         words.push(word(NOP, 0))?;
     }
@@ -52,7 +45,7 @@ pub fn chain(heap: Global, length: usize) -> Result<Vec<u32>, AllocError> {
 pub fn repeated(heap: Global, body: &[u32]) -> Result<Vec<u32>, AllocError> {
     let mut words = Vec::new(heap);
     words.push(word(REPEAT, 2))?;
-    words.push(word(0, 1))?;
+    words.push(word(NUMBER, 1))?;
     words.extend_from_slice(body)?;
     Ok(words)
 }
@@ -63,7 +56,7 @@ pub fn unrolled(heap: Global, body: &[u32]) -> Result<Vec<u32>, AllocError> {
     words.push(word(SEQ, 2))?;
     words.extend_from_slice(body)?;
     words.push(word(REPEAT, 2))?;
-    words.push(word(0, 0))?;
+    words.push(word(NUMBER, 0))?;
     words.extend_from_slice(body)?;
     Ok(words)
 }
