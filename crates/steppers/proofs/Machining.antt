@@ -1,9 +1,8 @@
 -- What a machine answers, by the words that it holds.
-use Rattle.std.proofs.Common.{◌≡◌, ℕ, ◌<◌, ◌≤◌, Bool, true, false, cond, leb, List, [], ◌∷◌, ◌++◌, length, drop, is_err, Some, None, Ok, Err, vec_items, vec_capacity, Option, Result, Vec, sym, refl, ap, ◌∙◌, subst, arith}
+use Rattle.std.proofs.Common.{◌≡◌, ◌⊎◌, ℕ, ◌<◌, ◌≤◌, true, false, eqb, leb, List, [], ◌++◌, length, drop, is_err, Some, None, Ok, Err, Option, Result, sym, refl, ap, ◌∙◌, subst, ⊎_elim, arith}
 use Rattle.std.specs.Result.{result_map_both}
-use Rattle.std.specs.declared.alloc.Global.{Global}
-use Rattle.std.proofs.lemmas.List.{append-nil}
-use Rattle.std.proofs.lemmas.Bool.{leb-true, le-leb, lt-leb}
+use Rattle.std.proofs.lemmas.List.{append-nil, nil_from_length}
+use Rattle.std.proofs.lemmas.Bool.{eqb-true, eqb-false, leb-true, le-leb, lt-leb}
 use Rattle.terms.specs.Trees.{Tree, written, read, WellFormed, term_of}
 use Rattle.terms.proofs.Readings.{term_read}
 use Rattle.languages.specs.declared.refusal.Refusal.{Refusal}
@@ -23,7 +22,7 @@ use Rattle.steppers.specs.Steps.{rule_of}
 use Rattle.steppers.specs.Loads.{holdable, expansion_of, meaning_of}
 use Rattle.steppers.specs.Places.{spot_of}
 use Rattle.steppers.specs.Placed.{OverAt, FoundIn}
-use Rattle.steppers.specs.Written.{Wordable, rewritten, Settled}
+use Rattle.steppers.specs.Written.{Wordable, rewritten}
 use Rattle.steppers.specs.Closing.{next_kept}
 use Rattle.steppers.specs.Loading.{loadable, expands_to, Held, empty, term, held_words, term_holdable}
 use Rattle.steppers.proofs.Stepping.{rule_ended, rule_waits, rule_sticks, no_child, rule_replaces}
@@ -32,24 +31,34 @@ pub no_term : (ws : List ℕ) → ws ≡ [] → term_of ws ≡ None
 unfolding term_of read
 no_term ws e = ap term_of e
 
-pub no_items : (ws : List ℕ) (n : ℕ) → n ≡ length ws → n ≡ 0 → ws ≡ []
-no_items [] n e z = refl
-no_items (w ∷ ws) n e z = absurd (let y : ⊥ = omega (arith, e, z) in y)
-
 -- the term that the words are
 held_term : (ws : List ℕ) (t : Tree) → WellFormed t → written t ≡ ws → term_of ws ≡ Some t
 held_term ws t formed e = ap term_of (sym e) ∙ term_read t false formed
 
-pub begins : (ws : List ℕ) (t : Tree) → WellFormed t → written t ≡ ws → BeginsWith ws t
-begins ws t formed e = (formed, ([], sym e ∙ sym (append-nil (written t))))
+-- the words that were looked at are none, so none are held
+pub no_words : (ws other : List ℕ) → other ≡ ws → true ≡ eqb (length other) 0 → ws ≡ []
+no_words ws other same none = sym same ∙ nil_from_length other (eqb-true (length other) 0 (sym none))
 
--- words that may be held, and are some
-pub some_term : (ws : List ℕ) (n : ℕ) → holdable ws ≡ true → n ≡ length ws → (n ≡ 0 → ⊥) → (t : Tree) × WellFormed t × (written t ≡ ws) × (length ws ≤ 1024)
-some_term ws n holds e some = by_held (held_words ws holds)
+-- they are some, so a term is held, and they begin with it
+pub record Holds (ws other : List ℕ) : Type 0 where
+  pub tree : Tree
+  pub formed : WellFormed tree
+  pub spelled : written tree ≡ ws
+  pub few : length ws ≤ 1024
+  pub begun : BeginsWith other tree
+
+pub some_words : (ws other : List ℕ) → other ≡ ws → holdable ws ≡ true → false ≡ eqb (length other) 0 → Holds ws other
+some_words ws other same holds some = by_held (held_words ws holds)
   where
-    by_held : Held ws → (t : Tree) × WellFormed t × (written t ≡ ws) × (length ws ≤ 1024)
-    by_held (empty h) = absurd (some (e ∙ ap length h))
-    by_held (term t formed h few) = (t, formed, h, few)
+    by_held : Held ws → Holds ws other
+    by_held (empty h) = absurd (eqb-false (length other) 0 (sym some) (ap length (same ∙ h)))
+    by_held (term t formed h few) = record {
+      tree = t;
+      formed = formed;
+      spelled = h;
+      few = few;
+      begun = (formed, ([], same ∙ sym h ∙ sym (append-nil (written t))));
+    }
 
 -- whether the words are admitted, by their expansion
 abbrev verdict : Result Expanded Refusal → Result (Unit {0}) Refusal
@@ -82,20 +91,27 @@ module _ (table : Table) (sound : Sound table) where
       by_expansion (Ok e) v h = apart (cc)
       by_expansion (Err other) v h = let same : refusal ≡ other = cc in rw (v, Loads) (ap Err same, refl)
 
-  -- the verdict on the words, from the answer that admits them or not
-  pub admitted : (ws other : List ℕ) (r : Result (Unit {0}) Refusal) → other ≡ ws → Same r (verdict (expansion_of table other)) → false ≡ is_err r → (x : Unit {0}) × Same (Ok x) (verdict (expansion_of table ws))
-  admitted ws other (Ok x) e h test = (x, h ∙ ap (λ xs. verdict (expansion_of table xs)) e)
-  admitted ws other (Err refusal) e h test = apart (cc)
+  -- a term is held that has not ended, and a spot was found in it
+  pub record Ready (ws : List ℕ) (image : ℕ) (spot : Spot) : Type 0 where
+    pub tree : Tree
+    pub formed : WellFormed tree
+    pub spelled : written tree ≡ ws
+    pub few : length ws ≤ 1024
+    pub goes : table.over (seen tree) ≡ false
+    pub found : FoundIn table ws image spot
 
-  pub refused : (ws other : List ℕ) (r : Result (Unit {0}) Refusal) → other ≡ ws → Same r (verdict (expansion_of table other)) → true ≡ is_err r → (refusal : Refusal) × Same (Err refusal) (verdict (expansion_of table ws))
-  refused ws other (Ok x) e h test = apart (cc)
-  refused ws other (Err refusal) e h test = (refusal, h ∙ ap (λ xs. verdict (expansion_of table xs)) e)
-
-  -- a term is held, and has not ended
-  pub going : (ws other : List ℕ) (n : ℕ) → holdable ws ≡ true → n ≡ length ws → (n ≡ 0 → ⊥) → other ≡ ws → OverAt table other false → (t : Tree) × WellFormed t × (written t ≡ ws) × (length ws ≤ 1024) × (table.over (seen t) ≡ false)
-  going ws other n holds size some same over =
-      let t = some_term ws n holds size some in
-      (t.0, t.1, t.2, t.3, sym (over t.0 (begins other t.0 t.1 (t.2 ∙ sym same))))
+  -- the words that were looked at are those that are held
+  pub ready : (ws other : List ℕ) (image : ℕ) (spot : Spot) → other ≡ ws → holdable ws ≡ true → false ≡ eqb (length other) 0 → OverAt table other false → FoundIn table other image spot → Ready ws image spot
+  ready ws other image spot same holds some over found =
+      let h = some_words ws other same holds some in
+      record {
+        tree = h.tree;
+        formed = h.formed;
+        spelled = h.spelled;
+        few = h.few;
+        goes = sym (over h.tree h.begun);
+        found = subst (λ xs. FoundIn table xs image spot) same found;
+      }
 
   -- a step with nothing held
   pub steps_nothing : (ws : List ℕ) (image : ℕ) → ws ≡ [] → StepGives (meaning_of table) image (term_of ws) (Err NothingHeld) (term_of ws)
@@ -106,76 +122,63 @@ module _ (table : Table) (sound : Sound table) where
   steps_by ws image t move s is held rule steps =
       subst (λ o. StepGives (meaning_of table) image o (Ok s) is) (sym held) (subst (λ m. Steps table.capacity t m s is) (sym rule) steps)
 
-  module _ (ws : List ℕ) (image : ℕ) (t : Tree) (formed : WellFormed t) (e : written t ≡ ws) where
-    abbrev held : term_of ws ≡ Some t
-    held = held_term ws t formed e
+  -- a step of a term that has ended
+  pub steps_ended : (ws other : List ℕ) (image : ℕ) → other ≡ ws → holdable ws ≡ true → false ≡ eqb (length other) 0 → OverAt table other true → StepGives (meaning_of table) image (term_of ws) (Ok Ended) (term_of ws)
+  steps_ended ws other image same holds some over =
+      let h = some_words ws other same holds some in
+      let held = held_term ws h.tree h.formed h.spelled in
+      steps_by ws image h.tree ended Ended (term_of ws) held (rule_ended table h.tree image (sym (over h.tree h.begun))) (refl, held)
 
-    pub steps_ended : table.over (seen t) ≡ true → StepGives (meaning_of table) image (term_of ws) (Ok Ended) (term_of ws)
-    steps_ended over = steps_by ws image t ended Ended (term_of ws) held (rule_ended table t image over) (refl, held)
+  module _ (ws : List ℕ) (image : ℕ) (spot : Spot) (r : Ready ws image spot) where
+    abbrev t : Tree
+    t = r.tree
 
-    module _ (over : table.over (seen t) ≡ false) (spot : Spot) (found : FoundIn table ws image spot) where
-      there : spot ≡ spot_of table t image 0 0
-      there = found.2 t formed (sym e)
+    held : term_of ws ≡ Some t
+    held = held_term ws t r.formed r.spelled
 
-      acts : (a : Action) → spot.action ≡ a → (spot_of table t image 0 0).action ≡ a
-      acts a h = ap (λ s. s.action) (sym there) ∙ h
+    there : spot ≡ spot_of table t image 0 0
+    there = r.found.2 t r.formed (sym r.spelled)
 
-      -- the next term is `next`: it moved if that fits, and is full else
-      steps_next : (effect : ℕ) (next : Tree) (fits : Bool) (is : Option Tree) → rule_of table t image ≡ moved effect next → leb (length (written next)) table.capacity ≡ fits → is ≡ cond fits (Some next) (Some t) → StepGives (meaning_of table) image (term_of ws) (Ok (cond fits (Moved effect) Full)) is
-      steps_next effect next fits is rule size h =
-          steps_by ws image t (moved effect next) (cond fits (Moved effect) Full) is held rule (subst (λ b. cond b ((cond fits (Moved effect) Full ≡ Moved effect) × (is ≡ Some next)) ((cond fits (Moved effect) Full ≡ Full) × (is ≡ Some t))) (sym size) (by_fits fits h))
-        where
-          by_fits : (b : Bool) → is ≡ cond b (Some next) (Some t) → cond b ((cond b (Moved effect) Full ≡ Moved effect) × (is ≡ Some next)) ((cond b (Moved effect) Full ≡ Full) × (is ≡ Some t))
-          by_fits true h = (refl, h)
-          by_fits false h = (refl, h)
+    acts : (a : Action) → spot.action ≡ a → (spot_of table t image 0 0).action ≡ a
+    acts a h = ap (λ s. s.action) (sym there) ∙ h
 
-      pub steps_waits : spot.action ≡ action.Wait → StepGives (meaning_of table) image (term_of ws) (Ok (cond (leb (length ws) table.capacity) (Moved 0) Full)) (term_of ws)
-      steps_waits h =
-          let rule = rule_waits table sound t image formed over (acts action.Wait h) in
-          steps_next 0 t (leb (length ws) table.capacity) (term_of ws) rule (ap (λ xs. leb (length xs) table.capacity) e) (held ∙ either (leb (length ws) table.capacity))
-        where
-          either : (b : Bool) → Some t ≡ cond b (Some t) (Some t)
-          either true = refl
-          either false = refl
+    -- the next term fits: the step has moved
+    moves : (effect : ℕ) (next : Tree) (is : Option Tree) → rule_of table t image ≡ moved effect next → leb (length (written next)) table.capacity ≡ true → is ≡ Some next → StepGives (meaning_of table) image (term_of ws) (Ok (Moved effect)) is
+    moves effect next is rule size h = steps_by ws image t (moved effect next) (Moved effect) is held rule (rw size (refl, h))
 
-      pub steps_sticks : spot.action ≡ action.Stuck → StepGives (meaning_of table) image (term_of ws) (Ok Stuck) (term_of ws)
-      steps_sticks h = steps_by ws image t stuck Stuck (term_of ws) held (rule_sticks table sound t image formed over (acts action.Stuck h)) (refl, held)
+    -- it does not fit
+    fills : (effect : ℕ) (next : Tree) → rule_of table t image ≡ moved effect next → leb (length (written next)) table.capacity ≡ false → StepGives (meaning_of table) image (term_of ws) (Ok Full) (term_of ws)
+    fills effect next rule size = steps_by ws image t (moved effect next) Full (term_of ws) held rule (rw size (refl, held))
 
-      pub steps_no_child : (i : ℕ) → spot.action ≡ action.Child i → ⊥
-      steps_no_child i h = no_child table sound t image formed over i (acts (action.Child i) h)
+    pub waits : spot.action ≡ action.Wait → length ws ≤ table.capacity → StepGives (meaning_of table) image (term_of ws) (Ok (Moved 0)) (term_of ws)
+    waits h few =
+        moves 0 t (term_of ws) (rule_waits table sound t image r.formed r.goes (acts action.Wait h)) (le-leb (length (written t)) table.capacity (subst (λ xs. length xs ≤ table.capacity) (sym r.spelled) few)) held
 
-      -- the node at the spot is replaced: what is asked for writing the next term, and what follows once it is written
-      pub record Rewrites (effect : ℕ) (by : Made) : Type 0 where
-        pub wordable : Wordable by
-        pub outer_within : spot.outer ≤ length ws
-        pub node_within : spot.node ≤ length ws
-        pub fitting : (is : List ℕ) → leb (length (rewritten ws spot.outer spot.node by)) table.capacity ≡ true → is ≡ rewritten ws spot.outer spot.node by → (holdable is ≡ true) × StepGives (meaning_of table) image (term_of ws) (Ok (Moved effect)) (term_of is)
-        pub full : leb (length (rewritten ws spot.outer spot.node by)) table.capacity ≡ false → StepGives (meaning_of table) image (term_of ws) (Ok Full) (term_of ws)
+    pub waits_full : spot.action ≡ action.Wait → table.capacity < length ws → StepGives (meaning_of table) image (term_of ws) (Ok Full) (term_of ws)
+    waits_full h many =
+        fills 0 t (rule_waits table sound t image r.formed r.goes (acts action.Wait h)) (lt-leb (length (written t)) table.capacity (subst (λ xs. table.capacity < length xs) (sym r.spelled) many))
 
-      pub rewrites : (effect : ℕ) (by : Made) → spot.action ≡ action.Replace effect by → Rewrites effect by
-      rewrites effect by h =
-          let r = rule_replaces table sound t image formed over effect by (acts (action.Replace effect by) h) in
-          let next = r.next in
-          let words : rewritten ws spot.outer spot.node by ≡ written next =
-          ap (λ xs. rewritten xs spot.outer spot.node by) (sym e) ∙ ap (λ s. rewritten (written t) s.outer s.node by) there ∙ r.words in
-          let size : leb (length (written next)) table.capacity ≡ leb (length (rewritten ws spot.outer spot.node by)) table.capacity = ap (λ xs. leb (length xs) table.capacity) (sym words) in
-          let kept = next_kept table sound t next image effect formed r.rule in
-          record {
-            wordable = r.wordable;
-            outer_within = subst (λ s. s.outer ≤ length ws) (sym there) (subst (λ xs. (spot_of table t image 0 0).outer ≤ length xs) e r.outer_within);
-            node_within = subst (λ s. s.node ≤ length ws) (sym there) (subst (λ xs. (spot_of table t image 0 0).node ≤ length xs) e r.node_within);
-            fitting = λ is fits same. let spelled : written next ≡ is = sym words ∙ sym same in let few = leb-true (length (written next)) table.capacity (size ∙ fits) in let small : length is ≤ 1024 = subst (λ xs. length xs ≤ 1024) spelled (omega (arith, few, sound.holds_few)) in (term_holdable next is kept.0 spelled small, steps_next effect next true (term_of is) r.rule (size ∙ fits) (held_term is next kept.0 spelled));
-            full = λ over. steps_next effect next false (term_of ws) r.rule (size ∙ over) held;
-          }
+    pub sticks : (((i : ℕ) × (spot.action ≡ action.Child i)) ⊎ (spot.action ≡ action.Stuck)) → StepGives (meaning_of table) image (term_of ws) (Ok Stuck) (term_of ws)
+    sticks = ⊎_elim (λ p. absurd (no_child table sound t image r.formed r.goes p.0 (acts (action.Child p.0) p.1))) (λ h. steps_by ws image t stuck Stuck (term_of ws) held (rule_sticks table sound t image r.formed r.goes (acts action.Stuck h)) (refl, held))
 
-      -- what is held behind the step: the next term if it fits, else the term as it was
-      pub settles : (effect : ℕ) (by : Made) (v w v' w' : Vec ℕ Global) (fits : Bool) → Rewrites effect by → vec_items v ≡ ws → fits ≡ leb (length (rewritten ws spot.outer spot.node by)) table.capacity → (fits ≡ true → vec_items w ≡ rewritten ws spot.outer spot.node by) → 1024 ≤ vec_capacity v → 1024 ≤ vec_capacity w → holdable ws ≡ true → Settled fits v w v' w' → (holdable (vec_items v') ≡ true) × (1024 ≤ vec_capacity v') × (1024 ≤ vec_capacity w') × StepGives (meaning_of table) image (term_of ws) (Ok (cond fits (Moved effect) Full)) (term_of (vec_items v'))
-      settles effect by v w v' w' true r was size items room more_room holds (a, b) =
-          let next = r.fitting (vec_items v') (sym size) (ap vec_items a ∙ items refl) in
-          (next.0, subst (λ x. 1024 ≤ vec_capacity x) (sym a) more_room, subst (λ x. 1024 ≤ vec_capacity x) (sym b) room, next.1)
-      settles effect by v w v' w' false r was size items room more_room holds (a, b) =
-          let same : vec_items v' ≡ ws = ap vec_items a ∙ was in
-          (ap holdable same ∙ holds, subst (λ x. 1024 ≤ vec_capacity x) (sym a) room, subst (λ x. 1024 ≤ vec_capacity x) (sym b) more_room, subst (λ xs. StepGives (meaning_of table) image (term_of ws) (Ok Full) (term_of xs)) (sym same) (r.full (sym size)))
+    -- the node at the spot is replaced: what is asked for writing the next term, and what follows once it is written
+    pub record Rewrites (effect : ℕ) (by : Made) : Type 0 where
+      pub wordable : Wordable by
+      pub fitting : (next is : List ℕ) (most : ℕ) → next ≡ rewritten ws spot.outer spot.node by → most ≡ table.capacity → true ≡ leb (length next) most → is ≡ next → (holdable is ≡ true) × StepGives (meaning_of table) image (term_of ws) (Ok (Moved effect)) (term_of is)
+      pub full : (next : List ℕ) (most : ℕ) → next ≡ rewritten ws spot.outer spot.node by → most ≡ table.capacity → false ≡ leb (length next) most → StepGives (meaning_of table) image (term_of ws) (Ok Full) (term_of ws)
+
+    pub rewrites : (effect : ℕ) (by : Made) → spot.action ≡ action.Replace effect by → Rewrites effect by
+    rewrites effect by h =
+        let p = rule_replaces table sound t image r.formed r.goes effect by (acts (action.Replace effect by) h) in
+        let tree = p.next in
+        let words : rewritten ws spot.outer spot.node by ≡ written tree =
+        ap (λ xs. rewritten xs spot.outer spot.node by) (sym r.spelled) ∙ ap (λ s. rewritten (written t) s.outer s.node by) there ∙ p.words in
+        let kept = next_kept table sound t tree image effect r.formed p.rule in
+        record {
+          wordable = p.wordable;
+          fitting = λ next is most same capacity fits moved_there. let spelled : written tree ≡ is = sym (moved_there ∙ same ∙ words) in let size : leb (length (written tree)) table.capacity ≡ true = (λ j. leb (length (sym (same ∙ words) j)) (sym capacity j)) ∙ sym fits in let few = leb-true (length (written tree)) table.capacity size in (term_holdable tree is kept.0 spelled (subst (λ xs. length xs ≤ 1024) spelled (omega (arith, few, sound.holds_few))), moves effect tree (term_of is) p.rule size (held_term is tree kept.0 spelled));
+          full = λ next most same capacity over. fills effect tree p.rule ((λ j. leb (length (sym (same ∙ words) j)) (sym capacity j)) ∙ sym over);
+        }
 
 -- a show: the term held, or its refusals
 module _ (table : Table) (sound : Sound table) where
@@ -188,30 +191,36 @@ module _ (table : Table) (sound : Sound table) where
       let none = no_term ws e in
       rw (enough, BufferShowGives) (subst (λ o. HeldShowGives (meaning_of table) o buffer (Err NothingHeld) buffer) (sym none) (refl, refl))
 
-  module _ (ws buffer : List ℕ) (t : Tree) (formed : WellFormed t) (e : written t ≡ ws) (long : 1024 ≤ length buffer) where
-    with_held : (r : Option ℕ) (after : List ℕ) → ShowGives (meaning_of table) t buffer r after → BufferShowGives (meaning_of table) (term_of ws) buffer (Ok r) after
+  module _ (ws other buffer : List ℕ) (same : other ≡ ws) (held : Holds ws other) (long : 1024 ≤ length buffer) where
+    abbrev shown : Tree
+    shown = held.tree
+
+    with_held : (r : Option ℕ) (after : List ℕ) → ShowGives (meaning_of table) shown buffer r after → BufferShowGives (meaning_of table) (term_of ws) buffer (Ok r) after
     with_held r after h =
         let enough = le-leb 1024 (length buffer) long in
-        rw (enough, BufferShowGives) (subst (λ o. HeldShowGives (meaning_of table) o buffer (Ok r) after) (sym (held_term ws t formed e)) h)
+        rw (enough, BufferShowGives) (subst (λ o. HeldShowGives (meaning_of table) o buffer (Ok r) after) (sym (held_term ws shown held.formed held.spelled)) h)
 
     -- the stepper would load what is held: that is shown
-    pub shows_term : (x : Unit {0}) → Same (Ok x) (verdict (expansion_of table ws)) → BufferShowGives (meaning_of table) (term_of ws) buffer (Ok (Some (length ws))) (ws ++ drop (length ws) buffer)
-    shows_term x h = by_expansion (expansion_of table ws) refl h
+    pub shows_term : (r : Result (Unit {0}) Refusal) → Same r (verdict (expansion_of table other)) → false ≡ is_err r → BufferShowGives (meaning_of table) (term_of ws) buffer (Ok (Some (length other))) (other ++ drop (length other) buffer)
+    shows_term (Err refusal) h test = apart (cc)
+    shows_term (Ok x) h test =
+        subst (λ xs. BufferShowGives (meaning_of table) (term_of ws) buffer (Ok (Some (length xs))) (xs ++ drop (length xs) buffer)) (sym same) (by_expansion (expansion_of table ws) refl (h ∙ ap (λ xs. verdict (expansion_of table xs)) same))
       where
         by_expansion : (r : Result Expanded Refusal) → expansion_of table ws ≡ r → Same (Ok x) (verdict r) → BufferShowGives (meaning_of table) (term_of ws) buffer (Ok (Some (length ws))) (ws ++ drop (length ws) buffer)
         by_expansion (Err refusal) v h = apart (cc)
         by_expansion (Ok d) v h =
             let l = loadable table ws d v in
-            let few : length (written t) ≤ 1024 = subst (λ xs. length xs ≤ 1024) (sym e) (omega (arith, l.few, sound.holds_few)) in
-            let expands : expansion_of table (written t) ≡ Ok d = ap (expansion_of table) e ∙ v in
-            let same : d.term ≡ t = let a = held_term ws d.term l.formed l.spelled in let b = held_term ws t formed e in cc in
-            with_held (Some (length ws)) (ws ++ drop (length ws) buffer) (t, (formed, few, (d, expands, same)), ap length (sym e), ap (λ xs. xs ++ drop (length ws) buffer) (sym e))
+            let few : length (written shown) ≤ 1024 = subst (λ xs. length xs ≤ 1024) (sym held.spelled) (omega (arith, l.few, sound.holds_few)) in
+            let expands : expansion_of table (written shown) ≡ Ok d = ap (expansion_of table) held.spelled ∙ v in
+            let same : d.term ≡ shown = let a = held_term ws d.term l.formed l.spelled in let b = held_term ws shown held.formed held.spelled in cc in
+            with_held (Some (length ws)) (ws ++ drop (length ws) buffer) (shown, (held.formed, few, (d, expands, same)), ap length (sym held.spelled), ap (λ xs. xs ++ drop (length ws) buffer) (sym held.spelled))
 
     -- it would not: nothing expands to it
-    pub shows_none : (refusal : Refusal) → Same (Err refusal) (verdict (expansion_of table ws)) → BufferShowGives (meaning_of table) (term_of ws) buffer (Ok None) buffer
-    shows_none refusal h = by_expansion (expansion_of table ws) refl h
+    pub shows_none : (r : Result (Unit {0}) Refusal) → Same r (verdict (expansion_of table other)) → true ≡ is_err r → BufferShowGives (meaning_of table) (term_of ws) buffer (Ok None) buffer
+    shows_none (Ok x) h test = apart (cc)
+    shows_none (Err refusal) h test = by_expansion (expansion_of table ws) refl (h ∙ ap (λ xs. verdict (expansion_of table xs)) same)
       where
         by_expansion : (r : Result Expanded Refusal) → expansion_of table ws ≡ r → Same (Err refusal) (verdict r) → BufferShowGives (meaning_of table) (term_of ws) buffer (Ok None) buffer
         by_expansion (Ok d) v h = apart (cc)
         by_expansion (Err other) v h =
-            with_held None buffer ((λ u s. let same = expands_to table u t s.0 s.2 in let a = ap (expansion_of table) (ap written same ∙ e) ∙ v in let b = s.2.1 in apart (cc)), refl)
+            with_held None buffer ((λ u s. let same = expands_to table u shown s.0 s.2 in let a = ap (expansion_of table) (ap written same ∙ held.spelled) ∙ v in let b = s.2.1 in apart (cc)), refl)

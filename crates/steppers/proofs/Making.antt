@@ -1,6 +1,6 @@
 -- The words that are made in the place of a node are those of the tree that takes its place.
-use Rattle.std.proofs.Common.{◌≡◌, ℕ, zero, suc, ◌+◌, ◌-◌, ◌*◌, ◌<◌, ◌≤◌, Bool, true, false, leb, List, [], ◌∷◌, ◌++◌, length, take, drop, Some, None, Ok, Err, Option, Result, sym, refl, ap, ◌∙◌, subst, append_assoc, arith, length-append}
-use Rattle.std.proofs.lemmas.List.{append-nil, drop_at, drop-drop, take_rest, length-drop, length-take-le}
+use Rattle.std.proofs.Common.{◌≡◌, ℕ, zero, suc, ◌+◌, ◌<◌, Bool, true, false, leb, List, [], ◌∷◌, ◌++◌, length, take, drop, Some, None, Ok, Err, Option, Result, sym, refl, ap, ◌∙◌, subst, arith}
+use Rattle.std.proofs.lemmas.List.{append-nil, drop_at, drop-drop}
 use Rattle.std.proofs.lemmas.Bool.{leb-true, and_parts}
 use Rattle.terms.specs.declared.front.Broken.{Broken}
 use Rattle.terms.specs.Words.{word, is_form_label}
@@ -14,7 +14,7 @@ use Rattle.steppers.specs.declared.action.Made.TheVariants as made
 use Rattle.steppers.specs.declared.spot.Spot.{Spot}
 use Rattle.steppers.specs.Table.{Table, Sound, MadeSoundly}
 use Rattle.steppers.specs.Steps.{pick, fill}
-use Rattle.steppers.specs.Written.{child_words, round_words, made_words, Wordable, size_of, rewritten}
+use Rattle.steppers.specs.Written.{child_words, made_words, Wordable, size_of, spliced, rewritten}
 use Rattle.steppers.proofs.Splicing.{Spliced}
 
 -- a child that is there
@@ -47,20 +47,6 @@ pick_words l ts rest i formed less =
     let found = children_found (form l ts) rest i formed in
     child_words_lem ws i ∙ is_child ws (pick i ts) (child_at i ws) (subst (λ o. IsChild ws o (child_at i ws)) (child_there i ts less) found)
 
-pub round_size : (first again n : ℕ) (body : List ℕ) → length (round_words first again n body) ≡ 3 + 2 * length body
-round_size first again n body = let both = length-append body (word again 2 ∷ (word 0 n ∷ body)) in omega arith
-
--- the words of a round, one push and one append after the other
-pub round_words_lem : (first again n : ℕ) (body xs : List ℕ) → ((((xs ++ (word first 2 ∷ [])) ++ body) ++ (word again 2 ∷ [])) ++ (word 0 n ∷ [])) ++ body ≡ xs ++ round_words first again n body
-round_words_lem first again n body xs =
-    let w = word first 2 in
-    let v = word again 2 in
-    let u = word 0 n in
-    append_assoc (((xs ++ (w ∷ [])) ++ body) ++ (v ∷ [])) (u ∷ []) body
-    ∙ append_assoc ((xs ++ (w ∷ [])) ++ body) (v ∷ []) (u ∷ body)
-    ∙ append_assoc (xs ++ (w ∷ [])) body (v ∷ (u ∷ body))
-    ∙ append_assoc xs (w ∷ []) (body ++ (v ∷ (u ∷ body)))
-
 -- what is made in the place of that form
 pub made_words_lem : (has : ℕ → ℕ → Bool) (l : ℕ) (ts : Trees) (rest : List ℕ) (by : Made) → WellFormed (form l ts) → MadeSoundly has (count ts) by → made_words (written (form l ts) ++ rest) by ≡ written (fill by ts)
 unfolding fill written written_all count
@@ -82,28 +68,9 @@ size_of_lem t rest formed = by_end (ending false 1 (written t ++ rest)) (one_end
     by_end : (r : Result ℕ Broken) → r ≡ Ok (length (written t)) → elim r [ Ok end ↦ end | Err b ↦ 0 ] ≡ length (written t)
     by_end r e = let f : Result ℕ Broken → ℕ = λ q. elim q [ Ok end ↦ end | Err b ↦ 0 ] in ap f e
 
--- how many words the term has with the node at the spot replaced
-pub rewritten_size : (ws : List ℕ) (outer node : ℕ) (by : Made) → outer ≤ length ws → length (rewritten ws outer node by) ≡ outer + length (made_words (drop node ws) by) + (length ws - (node + size_of (drop node ws)))
-rewritten_size ws outer node by within =
-    let tail = node + size_of (drop node ws) in
-    let made = made_words (drop node ws) by in
-    let all = length-append (take outer ws) (made ++ drop tail ws) in
-    let some = length-append made (drop tail ws) in
-    let front = length-take-le outer ws within in
-    let back = length-drop tail ws in
-    omega (arith, all, some, front, back)
-
--- its words, one append after the other
-pub rewritten_words : (ws : List ℕ) (outer node size : ℕ) (by : Made) (a b c d : List ℕ) → a ≡ [] → b ≡ a ++ take outer ws → c ≡ b ++ made_words (take (length ws - node) (drop node ws)) by → d ≡ c ++ take (length ws - (node + size)) (drop (node + size) ws) → size ≡ size_of (drop node ws) → d ≡ rewritten ws outer node by
-rewritten_words ws outer node size by a b c d e f g h k =
-    let bs : b ≡ take outer ws = f ∙ ap (λ xs. xs ++ take outer ws) e in
-    let made : made_words (take (length ws - node) (drop node ws)) by ≡ made_words (drop node ws) by = ap (λ xs. made_words xs by) (take_rest ws node) in
-    let cs : c ≡ take outer ws ++ made_words (drop node ws) by = g ∙ ap (λ xs. xs ++ made_words (take (length ws - node) (drop node ws)) by) bs ∙ ap (λ xs. take outer ws ++ xs) made in
-    let tail : take (length ws - (node + size)) (drop (node + size) ws) ≡ drop (node + size_of (drop node ws)) ws = take_rest ws (node + size) ∙ ap (λ n. drop (node + n) ws) k in
-    h
-    ∙ ap (λ xs. xs ++ take (length ws - (node + size)) (drop (node + size) ws)) cs
-    ∙ ap (λ xs. (take outer ws ++ made_words (drop node ws) by) ++ xs) tail
-    ∙ append_assoc (take outer ws) (made_words (drop node ws) by) (drop (node + size_of (drop node ws)) ws)
+-- the parts of a term that is cut at a node, with what is made between them
+pub spliced_cut : (ws other front node behind : List ℕ) (s : Spot) (by : Made) → other ≡ ws → front ≡ take s.outer other → node ≡ drop s.node other → behind ≡ drop (s.node + size_of (drop s.node other)) other → spliced front node by behind ≡ rewritten ws s.outer s.node by
+spliced_cut ws other front node behind s by same f n b = (λ j. spliced (f j) (n j) by (b j)) ∙ ap (λ xs. rewritten xs s.outer s.node by) same
 
 label_wordable : (l : ℕ) → is_form_label l ≡ true → l < 256
 label_wordable l h = let few = leb-true l 255 (and_parts (leb 16 l) (leb l 255) h).1 in omega arith

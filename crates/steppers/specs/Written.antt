@@ -1,5 +1,5 @@
 -- What the functions that read and write words answer.
-use Rattle.std.specs.Prelude.{◌≡◌, ℕ, ◌+◌, ◌<◌, Bool, true, false, cond, List, [], ◌∷◌, ◌++◌, take, drop, Some, None, Ok, Err, Option, Result}
+use Rattle.std.specs.Prelude.{◌≡◌, ℕ, ◌+◌, ◌<◌, Bool, false, cond, List, [], ◌∷◌, ◌++◌, take, drop, Some, None, Ok, Err, Option, Result}
 use Rattle.std.specs.Result.{result_map_both}
 use Rattle.terms.specs.declared.words.Node.{Node}
 use Rattle.terms.specs.declared.words.Node.TheVariants as node
@@ -53,11 +53,10 @@ Wordable (made.Round first again count i) = (first < 256) × (again < 256) × (c
 abbrev pub size_of : List ℕ → ℕ
 size_of words = elim (ending false 1 words) [ Ok end ↦ end | Err b ↦ 0 ]
 
+-- what is made in the place of a node, between the words in front of it and those behind it
+abbrev pub spliced : List ℕ → List ℕ → Made → List ℕ → List ℕ
+spliced front node by rest = front ++ (made_words node by ++ rest)
+
 -- the term with a node of it replaced, and the marks from `outer` on that stand directly around it
 abbrev pub rewritten : List ℕ → ℕ → ℕ → Made → List ℕ
-rewritten term outer node by = take outer term ++ (made_words (drop node term) by ++ drop (node + size_of (drop node term)) term)
-
--- the next term takes the term's place if it fits
-abbrev pub Settled : {X : Type 0} → Bool → X → X → X → X → Type 0
-Settled true term next term' next' = (term' ≡ next) × (next' ≡ term)
-Settled false term next term' next' = (term' ≡ term) × (next' ≡ next)
+rewritten term outer node by = spliced (take outer term) (drop node term) by (drop (node + size_of (drop node term)) term)

@@ -5,11 +5,13 @@
 mod accept;
 pub mod action;
 mod change;
+mod cut;
 mod find;
 pub mod laws;
 pub mod logic;
 pub mod look;
 pub mod machine;
+mod room;
 pub mod run;
 pub mod sequence;
 mod spot;

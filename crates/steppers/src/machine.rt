@@ -1,17 +1,16 @@
 // The machine: one term of a stepper, and the memory for the next.
-ghost use Rattle.std.specs.Prelude.{◌≡◌, ◌≤◌, true, vec_capacity};
+ghost use Rattle.std.specs.Prelude.{◌≡◌, true};
 ghost use Rattle.steppers.specs.Loads.{holdable};
 
+use crate::room::Room;
 use crate::stepper::Stepper;
 
 // Holds the words of one term, or none. The memory for both runs of words is taken when the machine is made.
 #[derive(Drop)]
 pub struct Machine<S: Stepper> {
     pub(crate) stepper: S,
-    pub(crate) term: Vec<u32>,
+    pub(crate) term: Room,
     // where the next term is written
-    pub(crate) next: Vec<u32>,
-    ghost holds: { holdable term.items ≡ true },
-    ghost room: { 1024 ≤ vec_capacity term },
-    ghost room_for_next: { 1024 ≤ vec_capacity next },
+    pub(crate) next: Room,
+    ghost holds: { holdable term ≡ true },
 }
