@@ -6,14 +6,30 @@ use std::alloc::{AllocError, Global};
 use std::io;
 use steppers::machine::Machine;
 use steppers::sequence::Sequence;
+use terms::word::Word;
 
 const STEPS: u32 = 20_000;
-// SEQ 32:2, AWAIT 35:1, NOP 38:0
-const SEQ: u32 = 32 * 16_777_216 + 2;
 
-const AWAIT: u32 = 35 * 16_777_216 + 1;
+const SEQ: Word = Word {
+    label: 32,
+    payload: 2,
+};
 
-const NOP: u32 = 38 * 16_777_216;
+const AWAIT: Word = Word {
+    label: 35,
+    payload: 1,
+};
+
+const NOP: Word = Word {
+    label: 38,
+    payload: 0,
+};
+
+// The input that is waited for.
+const INPUT: Word = Word {
+    label: 0,
+    payload: 0,
+};
 
 // How many SEQs stand around a wait in a term of 1,024 words.
 const LEVELS: usize = 511;
@@ -22,8 +38,8 @@ const LEVELS: usize = 511;
 fn nested(heap: Global) -> Result<Vec<u32>, AllocError> {
     let mut words = Vec::new(heap);
     push_many(&mut words, SEQ, LEVELS)?;
-    words.push(AWAIT)?;
-    words.push(0)?;
+    push_many(&mut words, AWAIT, 1)?;
+    push_many(&mut words, INPUT, 1)?;
     push_many(&mut words, NOP, LEVELS)?;
     Ok(words)
 }

@@ -2,19 +2,35 @@
 use std::alloc::{AllocError, Global};
 use terms::word::Word;
 
-const NUMBER: u32 = 0;
+const SEQ: Word = Word {
+    label: 32,
+    payload: 2,
+};
 
-const SEQ: u32 = 32;
+const SET: Word = Word {
+    label: 33,
+    payload: 1,
+};
 
-const SET: u32 = 33;
+const REPEAT: Word = Word {
+    label: 36,
+    payload: 2,
+};
 
-const REPEAT: u32 = 36;
+const NOP: Word = Word {
+    label: 38,
+    payload: 0,
+};
 
-const NOP: u32 = 38;
+const ZERO: Word = Word {
+    label: 0,
+    payload: 0,
+};
 
-fn word(label: u32, payload: u32) -> u32 {
-    Word::new(label, payload).map_or(0, u32::from)
-}
+const ONE: Word = Word {
+    label: 0,
+    payload: 1,
+};
 
 // The words of a text.
 pub fn spelled(heap: Global, text: &str) -> Result<Vec<u32>, AllocError> {
@@ -29,14 +45,14 @@ pub fn spelled(heap: Global, text: &str) -> Result<Vec<u32>, AllocError> {
 pub fn chain(heap: Global, length: usize) -> Result<Vec<u32>, AllocError> {
     let mut words = Vec::new(heap);
     for _ in 1..length.div_ceil(2) {
-        words.push(word(SEQ, 2))?;
-        words.push(word(NOP, 0))?;
+        words.push(u32::from(SEQ))?;
+        words.push(u32::from(NOP))?;
     }
     if length % 2 == 0 {
-        words.push(word(SET, 1))?;
-        words.push(word(NUMBER, 1))?;
+        words.push(u32::from(SET))?;
+        words.push(u32::from(ONE))?;
     } else {
-        words.push(word(NOP, 0))?;
+        words.push(u32::from(NOP))?;
     }
     Ok(words)
 }
@@ -44,8 +60,8 @@ pub fn chain(heap: Global, length: usize) -> Result<Vec<u32>, AllocError> {
 // REPEAT(1, body).
 pub fn repeated(heap: Global, body: &[u32]) -> Result<Vec<u32>, AllocError> {
     let mut words = Vec::new(heap);
-    words.push(word(REPEAT, 2))?;
-    words.push(word(NUMBER, 1))?;
+    words.push(u32::from(REPEAT))?;
+    words.push(u32::from(ONE))?;
     words.extend_from_slice(body)?;
     Ok(words)
 }
@@ -53,10 +69,10 @@ pub fn repeated(heap: Global, body: &[u32]) -> Result<Vec<u32>, AllocError> {
 // SEQ(body, REPEAT(0, body)).
 pub fn unrolled(heap: Global, body: &[u32]) -> Result<Vec<u32>, AllocError> {
     let mut words = Vec::new(heap);
-    words.push(word(SEQ, 2))?;
+    words.push(u32::from(SEQ))?;
     words.extend_from_slice(body)?;
-    words.push(word(REPEAT, 2))?;
-    words.push(word(NUMBER, 0))?;
+    words.push(u32::from(REPEAT))?;
+    words.push(u32::from(ZERO))?;
     words.extend_from_slice(body)?;
     Ok(words)
 }
