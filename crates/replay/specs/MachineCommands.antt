@@ -1,5 +1,5 @@
 -- What a line of a job asks of the machine, by its words.
-use Rattle.std.specs.Prelude.{◌≡◌, ℕ, ◌⊎◌, List, [], ◌∷◌, length, Some, None, Ok, Err, codes, Option, Result, MatchOption, ◌≢◌}
+use Rattle.std.specs.Prelude.{◌≡◌, ℕ, ◌⊎◌, List, [], ◌∷◌, length, Some, None, Ok, Err, codes, Option, Result, MatchOption, MatchResult, ◌≢◌}
 use Rattle.std.specs.Borrow.{Bor}
 use Rattle.replay.specs.declared.machine_command.MachineCommand.{MachineCommand}
 use Rattle.replay.specs.declared.machine_command.MachineCommand.TheVariants as command
@@ -10,8 +10,18 @@ use Rattle.replay.specs.declared.machine_command.Core.TheVariants.{Logic, Sequen
 use Rattle.texts.specs.Numbers.{number_of}
 use Rattle.replay.specs.Commands.{words_of}
 
+-- the answer that the command is used otherwise
+abbrev pub IsMisuse : List ℕ → MachineMisread → Type 0
+IsMisuse usage (WrongWords u) = u.now ≡ usage
+IsMisuse usage (NoCore w) = ⊥
+IsMisuse usage (NoNumber w) = ⊥
+
 abbrev pub OneOf : List (List ℕ) → Option (Bor (List ℕ)) → Type 0
 OneOf words r = MatchOption r (length words ≢ 1) (λ x. words ≡ x.now ∷ [])
+
+-- the one of these words, or how the command is used if it isn't one
+abbrev pub OnlyWord : List (List ℕ) → List ℕ → Result (Bor (List ℕ)) MachineMisread → Type 0
+OnlyWord words usage r = MatchResult r (λ x. words ≡ x.now ∷ []) (λ e. (length words ≢ 1) × IsMisuse usage e)
 
 -- the first of these words, if there is one, is none of the four that the machine's commands begin with
 abbrev pub NamesNoMachineCommand : List (List ℕ) → Type 0

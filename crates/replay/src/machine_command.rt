@@ -1,7 +1,7 @@
 // Tells what a line of a job asks of the machine.
 ghost use Rattle.std.specs.Prelude.{◌∷◌, MatchOption, codes};
 ghost use Rattle.replay.specs.Commands.{words_of};
-ghost use Rattle.replay.specs.MachineCommands.{OneOf, NamesNoMachineCommand, AsksMachine};
+ghost use Rattle.replay.specs.MachineCommands.{OneOf, OnlyWord, NamesNoMachineCommand, AsksMachine};
 
 use crate::command::{is_blank, next_word};
 use languages::language::SHOWN_WORDS;
@@ -68,31 +68,29 @@ fn one_word(line: &str) -> Option<&str>
     if is_blank(behind) { Some(word) } else { None }
 }
 
+// The one word of a line that must have one.
+fn only_word<'a>(words: &'a str, usage: &'static str) -> Result<&'a str, MachineMisread<'a>>
+    ensures { OnlyWord (words_of words.now) usage.now result }
+{
+    one_word(words).ok_or(MachineMisread::WrongWords { usage })
+}
+
 fn parse_core(words: &str) -> Result<MachineCommand<'_>, MachineMisread<'_>>
     ensures { AsksMachine (codes "core" ∷ words_of words.now) result }
 {
-    match one_word(words) {
-        Some("logic") => Ok(MachineCommand::Core(Core::Logic)),
-        Some("sequence") => Ok(MachineCommand::Core(Core::Sequence)),
-        Some(name) => Err(MachineMisread::NoCore(name)),
-        None => Err(MachineMisread::WrongWords {
-            usage: "core logic or core sequence",
-        }),
+    match only_word(words, "core logic or core sequence")? {
+        "logic" => Ok(MachineCommand::Core(Core::Logic)),
+        "sequence" => Ok(MachineCommand::Core(Core::Sequence)),
+        name => Err(MachineMisread::NoCore(name)),
     }
 }
 
 fn parse_step(words: &str) -> Result<MachineCommand<'_>, MachineMisread<'_>>
     ensures { AsksMachine (codes "step" ∷ words_of words.now) result }
 {
-    let Some(word) = one_word(words) else {
-        return Err(MachineMisread::WrongWords {
-            usage: "step IMAGE",
-        });
-    };
-    match number(word.as_bytes(), LAST_IMAGE) {
-        Some(image) => Ok(MachineCommand::Step { image }),
-        None => Err(MachineMisread::NoNumber(word)),
-    }
+    let word = only_word(words, "step IMAGE")?;
+    let image = number(word.as_bytes(), LAST_IMAGE).ok_or(MachineMisread::NoNumber(word))?;
+    Ok(MachineCommand::Step { image })
 }
 
 fn parse_show(words: &str) -> Result<MachineCommand<'_>, MachineMisread<'_>>
@@ -103,17 +101,11 @@ fn parse_show(words: &str) -> Result<MachineCommand<'_>, MachineMisread<'_>>
             length: SHOWN_WORDS,
         });
     }
-    let Some(word) = one_word(words) else {
-        return Err(MachineMisread::WrongWords {
-            usage: "show or show LENGTH",
-        });
-    };
-    match number(word.as_bytes(), LONGEST_BUFFER) {
-        Some(length) => Ok(MachineCommand::Show {
-            length: length as usize,
-        }),
-        None => Err(MachineMisread::NoNumber(word)),
-    }
+    let word = only_word(words, "show or show LENGTH")?;
+    let length = number(word.as_bytes(), LONGEST_BUFFER).ok_or(MachineMisread::NoNumber(word))?;
+    Ok(MachineCommand::Show {
+        length: length as usize,
+    })
 }
 
 // What a line asks of the machine; none for any other line.
