@@ -71,12 +71,10 @@ fn two_words(line: &str) -> Option<(&str, &str)>
 fn parse_list(words: &str) -> Result<Command<'_>, Misread<'_>>
     ensures { Asks (codes "list" ∷ words_of words.now) result }
 {
-    match two_words(words) {
-        Some((header, table)) => Ok(Command::List { header, table }),
-        None => Err(Misread::WrongWords {
-            usage: "list HEADER-FILE TABLE-FILE",
-        }),
-    }
+    let (header, table) = two_words(words).ok_or(Misread::WrongWords {
+        usage: "list HEADER-FILE TABLE-FILE",
+    })?;
+    Ok(Command::List { header, table })
 }
 
 fn parse_held(words: &str) -> Result<Command<'_>, Misread<'_>>
