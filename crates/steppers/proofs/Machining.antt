@@ -1,5 +1,5 @@
 -- What a machine answers, by the words that it holds.
-use Rattle.std.proofs.Common.{◌≡◌, ◌⊎◌, ℕ, ◌<◌, ◌≤◌, true, false, eqb, leb, List, [], ◌++◌, length, drop, is_err, Some, None, Ok, Err, Option, Result, sym, refl, ap, ◌∙◌, subst, ⊎_elim, arith}
+use Rattle.std.proofs.Common.{◌≡◌, ◌⊎◌, ℕ, ◌<◌, ◌≤◌, Bool, true, false, cond, eqb, leb, List, [], ◌++◌, length, drop, is_err, Some, None, Ok, Err, Option, Result, sym, refl, ap, ◌∙◌, subst, ⊎_elim, arith}
 use Rattle.std.specs.Result.{result_map_both}
 use Rattle.std.proofs.lemmas.List.{append-nil, nil_from_length}
 use Rattle.std.proofs.lemmas.Bool.{eqb-true, eqb-false, leb-true, le-leb, lt-leb}
@@ -25,7 +25,7 @@ use Rattle.steppers.specs.Placed.{OverAt, FoundIn}
 use Rattle.steppers.specs.Written.{Wordable, rewritten}
 use Rattle.steppers.specs.Closing.{next_kept}
 use Rattle.steppers.specs.Loading.{loadable, expands_to, Held, empty, term, held_words, term_holdable}
-use Rattle.steppers.proofs.Stepping.{rule_ended, rule_waits, rule_sticks, no_child, rule_replaces}
+use Rattle.steppers.proofs.Stepping.{Replaced, rule_ended, rule_waits, rule_sticks, no_child, rule_replaces}
 
 pub no_term : (ws : List ℕ) → ws ≡ [] → term_of ws ≡ None
 unfolding term_of read
@@ -97,6 +97,7 @@ module _ (table : Table) (sound : Sound table) where
     pub formed : WellFormed tree
     pub spelled : written tree ≡ ws
     pub few : length ws ≤ 1024
+    pub holds : holdable ws ≡ true
     pub goes : table.over (seen tree) ≡ false
     pub found : FoundIn table ws image spot
 
@@ -109,6 +110,7 @@ module _ (table : Table) (sound : Sound table) where
         formed = h.formed;
         spelled = h.spelled;
         few = h.few;
+        holds = holds;
         goes = sym (over h.tree h.begun);
         found = subst (λ xs. FoundIn table xs image spot) same found;
       }
@@ -161,24 +163,47 @@ module _ (table : Table) (sound : Sound table) where
     pub sticks : (((i : ℕ) × (spot.action ≡ action.Child i)) ⊎ (spot.action ≡ action.Stuck)) → StepGives (meaning_of table) image (term_of ws) (Ok Stuck) (term_of ws)
     sticks = ⊎_elim (λ p. absurd (no_child table sound t image r.formed r.goes p.0 (acts (action.Child p.0) p.1))) (λ h. steps_by ws image t stuck Stuck (term_of ws) held (rule_sticks table sound t image r.formed r.goes (acts action.Stuck h)) (refl, held))
 
-    -- the node at the spot is replaced: what is asked for writing the next term, and what follows once it is written
-    pub record Rewrites (effect : ℕ) (by : Made) : Type 0 where
+    -- the node at the spot is replaced: what is asked for writing the next term, what the step gives, and that a term is held then
+    pub record Replaces (effect : ℕ) (by : Made) (next_words : List ℕ) : Type 0 where
       pub wordable : Wordable by
-      pub fitting : (next is : List ℕ) (most : ℕ) → next ≡ rewritten ws spot.outer spot.node by → most ≡ table.capacity → true ≡ leb (length next) most → is ≡ next → (holdable is ≡ true) × StepGives (meaning_of table) image (term_of ws) (Ok (Moved effect)) (term_of is)
-      pub full : (next : List ℕ) (most : ℕ) → next ≡ rewritten ws spot.outer spot.node by → most ≡ table.capacity → false ≡ leb (length next) most → StepGives (meaning_of table) image (term_of ws) (Ok Full) (term_of ws)
+      pub fitting : (is : List ℕ) (most : ℕ) → most ≡ table.capacity → true ≡ leb (length next_words) most → is ≡ next_words → StepGives (meaning_of table) image (term_of ws) (Ok (Moved effect)) (term_of is)
+      pub full : (is : List ℕ) (most : ℕ) → most ≡ table.capacity → false ≡ leb (length next_words) most → is ≡ ws → StepGives (meaning_of table) image (term_of ws) (Ok Full) (term_of is)
+      pub held_after : (fits : Bool) (is : List ℕ) (most : ℕ) → most ≡ table.capacity → fits ≡ leb (length next_words) most → is ≡ cond fits next_words ws → holdable is ≡ true
 
-    pub rewrites : (effect : ℕ) (by : Made) → spot.action ≡ action.Replace effect by → Rewrites effect by
-    rewrites effect by h =
-        let p = rule_replaces table sound t image r.formed r.goes effect by (acts (action.Replace effect by) h) in
-        let tree = p.next in
-        let words : rewritten ws spot.outer spot.node by ≡ written tree =
-        ap (λ xs. rewritten xs spot.outer spot.node by) (sym r.spelled) ∙ ap (λ s. rewritten (written t) s.outer s.node by) there ∙ p.words in
-        let kept = next_kept table sound t tree image effect r.formed p.rule in
-        record {
-          wordable = p.wordable;
-          fitting = λ next is most same capacity fits moved_there. let spelled : written tree ≡ is = sym (moved_there ∙ same ∙ words) in let size : leb (length (written tree)) table.capacity ≡ true = (λ j. leb (length (sym (same ∙ words) j)) (sym capacity j)) ∙ sym fits in let few = leb-true (length (written tree)) table.capacity size in (term_holdable tree is kept.0 spelled (subst (λ xs. length xs ≤ 1024) spelled (omega (arith, few, sound.holds_few))), moves effect tree (term_of is) p.rule size (held_term is tree kept.0 spelled));
-          full = λ next most same capacity over. fills effect tree p.rule ((λ j. leb (length (sym (same ∙ words) j)) (sym capacity j)) ∙ sym over);
-        }
+    module _ (effect : ℕ) (by : Made) (h : spot.action ≡ action.Replace effect by) where
+      abbrev p : Replaced table sound t image r.formed r.goes effect by
+      p = rule_replaces table sound t image r.formed r.goes effect by (acts (action.Replace effect by) h)
+
+      abbrev next : Tree
+      next = p.next
+
+      abbrev next_words : List ℕ
+      next_words = rewritten ws spot.outer spot.node by
+
+      words : next_words ≡ written next
+      words =
+          ap (λ xs. rewritten xs spot.outer spot.node by) (sym r.spelled) ∙ ap (λ s. rewritten (written t) s.outer s.node by) there ∙ p.words
+
+      next_is : (is : List ℕ) → is ≡ next_words → WellFormed next × (written next ≡ is)
+      next_is is same = ((next_kept table sound t next image effect r.formed p.rule).0, sym (same ∙ words))
+
+      size : (fits : Bool) (most : ℕ) → most ≡ table.capacity → fits ≡ leb (length next_words) most → leb (length (written next)) table.capacity ≡ fits
+      size fits most capacity e = (λ j. leb (length (sym words j)) (sym capacity j)) ∙ sym e
+
+      holds_after : (fits : Bool) (is : List ℕ) (most : ℕ) → most ≡ table.capacity → fits ≡ leb (length next_words) most → is ≡ cond fits next_words ws → holdable is ≡ true
+      holds_after true is most capacity e same =
+          let few = leb-true (length (written next)) table.capacity (size true most capacity e) in
+          let n = next_is is same in
+          term_holdable next is n.0 n.1 (subst (λ xs. length xs ≤ 1024) n.1 (omega (arith, few, sound.holds_few)))
+      holds_after false is most capacity e same = ap holdable same ∙ r.holds
+
+      pub replaces : Replaces effect by next_words
+      replaces = record {
+        wordable = p.wordable;
+        fitting = λ is most capacity fits same. let n = next_is is same in moves effect next (term_of is) p.rule (size true most capacity fits) (held_term is next n.0 n.1);
+        full = λ is most capacity over same. subst (λ xs. StepGives (meaning_of table) image (term_of ws) (Ok Full) (term_of xs)) (sym same) (fills effect next p.rule (size false most capacity over));
+        held_after = holds_after;
+      }
 
 -- a show: the term held, or its refusals
 module _ (table : Table) (sound : Sound table) where

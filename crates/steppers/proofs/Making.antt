@@ -14,7 +14,7 @@ use Rattle.steppers.specs.declared.action.Made.TheVariants as made
 use Rattle.steppers.specs.declared.spot.Spot.{Spot}
 use Rattle.steppers.specs.Table.{Table, Sound, MadeSoundly}
 use Rattle.steppers.specs.Steps.{pick, fill}
-use Rattle.steppers.specs.Written.{child_words, made_words, Wordable, size_of, spliced, rewritten}
+use Rattle.steppers.specs.Written.{child_words, made_words, Wordable, size_of, rewritten}
 use Rattle.steppers.proofs.Splicing.{Spliced}
 
 -- a child that is there
@@ -67,10 +67,6 @@ size_of_lem t rest formed = by_end (ending false 1 (written t ++ rest)) (one_end
   where
     by_end : (r : Result ℕ Broken) → r ≡ Ok (length (written t)) → elim r [ Ok end ↦ end | Err b ↦ 0 ] ≡ length (written t)
     by_end r e = let f : Result ℕ Broken → ℕ = λ q. elim q [ Ok end ↦ end | Err b ↦ 0 ] in ap f e
-
--- the parts of a term that is cut at a node, with what is made between them
-pub spliced_cut : (ws other front node behind : List ℕ) (s : Spot) (by : Made) → other ≡ ws → front ≡ take s.outer other → node ≡ drop s.node other → behind ≡ drop (s.node + size_of (drop s.node other)) other → spliced front node by behind ≡ rewritten ws s.outer s.node by
-spliced_cut ws other front node behind s by same f n b = (λ j. spliced (f j) (n j) by (b j)) ∙ ap (λ xs. rewritten xs s.outer s.node by) same
 
 label_wordable : (l : ℕ) → is_form_label l ≡ true → l < 256
 label_wordable l h = let few = leb-true l 255 (and_parts (leb 16 l) (leb l 255) h).1 in omega arith

@@ -1,5 +1,5 @@
 -- The words of the next term: those of the term, with what is made in the place of the node at the spot.
-use Rattle.std.proofs.Common.{◌≡◌, ℕ, zero, suc, ◌+◌, ◌≤◌, false, List, [], ◌∷◌, ◌++◌, length, take, drop, sym, refl, ap, ◌∙◌, subst, append_assoc, add-zero, arith, length-append}
+use Rattle.std.proofs.Common.{◌≡◌, ℕ, zero, suc, ◌+◌, false, List, [], ◌∷◌, ◌++◌, length, take, drop, sym, refl, ap, ◌∙◌, subst, append_assoc, add-zero, arith, length-append}
 use Rattle.std.proofs.lemmas.List.{take_at, drop_at}
 use Rattle.terms.specs.Words.{word, head_payload}
 use Rattle.terms.specs.Trees.{Tree, Trees, atom, variable, body, head, form, none, more, count, written, written_all, WellMade, WellMadeAll, WellFormed}
@@ -24,8 +24,6 @@ module _ (table : Table) (sound : Sound table) (image : ℕ) (ws : List ℕ) whe
     pub soundly : MadeSoundly table.has (count children) by
     pub formed : WellFormed (form label children)
     pub stands : drop s.node ws ≡ written (form label children) ++ rest
-    pub outer_within : s.outer ≤ length ws
-    pub node_within : s.node ≤ length ws
     pub result : out ≡ take s.outer ws ++ (written (fill by children) ++ rest)
 
   -- how a change of a part, at this spot, shows in the words: with the marks around the part gone, or kept
@@ -117,8 +115,6 @@ module _ (table : Table) (sound : Sound table) (image : ℕ) (ws : List ℕ) whe
   replaced_here : (l : ℕ) (ts : Trees) (pre mk post : List ℕ) (outer here effect : ℕ) (by : Made) → WellFormed (form l ts) → MadeSoundly table.has (count ts) by → outer ≡ length pre → here ≡ length pre + length mk → ws ≡ pre ++ (mk ++ (written (form l ts) ++ post)) → Spliced (record { outer = outer; node = here; action = action.Replace effect by }) effect (pre ++ (written (fill by ts) ++ post))
   replaced_here l ts pre mk post outer here effect by formed soundly o h e =
       let front = length-append pre mk in
-      let all = ap length e ∙ length-append pre (mk ++ (written (form l ts) ++ post)) in
-      let more = length-append mk (written (form l ts) ++ post) in
       let grouped : ws ≡ (pre ++ mk) ++ (written (form l ts) ++ post) = e ∙ sym (append_assoc pre mk (written (form l ts) ++ post)) in
       record {
         label = l;
@@ -129,8 +125,6 @@ module _ (table : Table) (sound : Sound table) (image : ℕ) (ws : List ℕ) whe
         soundly = soundly;
         formed = formed;
         stands = ap (drop here) grouped ∙ drop_at (pre ++ mk) (written (form l ts) ++ post) here (front ∙ sym h);
-        outer_within = omega (arith, o, all, more);
-        node_within = omega (arith, h, all, more);
         result = sym (ap (λ xs. xs ++ (written (fill by ts) ++ post)) (ap (take outer) e ∙ take_at pre (mk ++ (written (form l ts) ++ post)) outer (sym o)));
       }
 

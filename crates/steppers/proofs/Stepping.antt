@@ -1,5 +1,5 @@
 -- What the spot of a term says of its step.
-use Rattle.std.proofs.Common.{◌≡◌, ℕ, ◌≤◌, true, false, cond, List, [], ◌++◌, length, sym, refl, ap, ◌∙◌, subst}
+use Rattle.std.proofs.Common.{◌≡◌, ℕ, true, false, cond, List, [], ◌++◌, sym, refl, ap, ◌∙◌, subst}
 use Rattle.std.proofs.lemmas.List.{append-nil}
 use Rattle.terms.specs.Trees.{Tree, written, WellFormed}
 use Rattle.languages.specs.Meaning.{moved, ended, stuck}
@@ -68,15 +68,13 @@ module _ (table : Table) (sound : Sound table) (t : Tree) (image : ℕ) (formed 
         by_change sticks p = apart (cc)
 
     -- the node at the spot is replaced: the next term, its words, and that they can be written
-    pub record Replaces (effect : ℕ) (by : Made) : Type 0 where
+    pub record Replaced (effect : ℕ) (by : Made) : Type 0 where
       pub next : Tree
       pub rule : rule_of table t image ≡ moved effect next
       pub words : rewritten (written t) spot.outer spot.node by ≡ written next
       pub wordable : Wordable by
-      pub outer_within : spot.outer ≤ length (written t)
-      pub node_within : spot.node ≤ length (written t)
 
-    by_splice : (effect e : ℕ) (by : Made) (n : Tree) → spot.action ≡ action.Replace effect by → rule_of table t image ≡ moved e n → Spliced table sound image (written t) spot e (out n) → Replaces effect by
+    by_splice : (effect e : ℕ) (by : Made) (n : Tree) → spot.action ≡ action.Replace effect by → rule_of table t image ≡ moved e n → Spliced table sound image (written t) spot e (out n) → Replaced effect by
     by_splice effect e by n acts rule p =
         let f = p.acts in
         let same_by : p.by ≡ by = cc in
@@ -87,14 +85,12 @@ module _ (table : Table) (sound : Sound table) (t : Tree) (image : ℕ) (formed 
           rule = rule ∙ ap (λ x. moved x n) same_effect;
           words = ap (rewritten (written t) spot.outer spot.node) (sym same_by) ∙ words ∙ append-nil (written n);
           wordable = subst Wordable same_by (made_wordable table sound _ p.by p.soundly);
-          outer_within = p.outer_within;
-          node_within = p.node_within;
         }
 
-    pub rule_replaces : (effect : ℕ) (by : Made) → spot.action ≡ action.Replace effect by → Replaces effect by
+    pub rule_replaces : (effect : ℕ) (by : Made) → spot.action ≡ action.Replace effect by → Replaced effect by
     rule_replaces effect by acts = by_change (step_of table t image) refl whole_shown
       where
-        by_change : (c : Change Tree) → step_of table t image ≡ c → Shown table sound image (written t) spot out out c → Replaces effect by
+        by_change : (c : Change Tree) → step_of table t image ≡ c → Shown table sound image (written t) spot out out c → Replaced effect by
         by_change (replaced e n) is p = by_splice effect e by n acts (goes_on_lem table t image (replaced e n) over is) p
         by_change (within e n) is p = by_splice effect e by n acts (goes_on_lem table t image (within e n) over is) p
         by_change waits is p = apart (cc)

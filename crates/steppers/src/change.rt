@@ -1,11 +1,13 @@
-// Writes a term with one of its nodes replaced.
-ghost use Rattle.std.specs.Prelude.{◌≡◌, ◌+◌, ◌*◌, ◌<◌, ◌≤◌, true, ◌++◌, length, nat_le};
+// Replaces a node of a term.
+ghost use Rattle.std.specs.Prelude.{◌≡◌, ◌+◌, ◌*◌, ◌<◌, ◌≤◌, ◌++◌, length, nat_le, if◌then◌else◌};
 ghost use Rattle.terms.specs.Words.{word};
-ghost use Rattle.steppers.specs.Written.{child_words, round_words, made_words, Wordable, spliced};
+ghost use Rattle.steppers.specs.Written.{child_words, round_words, made_words, Wordable, spliced, rewritten};
 
 use crate::action::Made;
-use crate::cut::Cut;
+use crate::cut::{Cut, cut_at};
 use crate::room::Room;
+use crate::spot::Spot;
+use std::mem::swap;
 use terms::front::argument;
 use terms::words::{ATOM, LABEL_UNIT};
 
@@ -75,19 +77,38 @@ fn write_made(out: &mut Room, node: &[u32], by: Made)
     }
 }
 
-// Writes the term with the node of the cut replaced, if that has at most so many words; whether it has.
-pub(crate) fn rewrite(out: &mut Room, cut: &Cut, by: Made, most: usize) -> bool
-    requires few { most ≤ 1024 }
-    requires wordable { Wordable by }
-    ensures answer { result ≡ nat_le (length (spliced cut.now.front.now cut.now.node.now by cut.now.behind.now)) most }
-    ensures items { result ≡ true → out.new ≡ spliced cut.now.front.now cut.now.node.now by cut.now.behind.now }
+// How many words the term has with the node of the cut replaced.
+fn new_size(cut: &Cut, by: Made) -> usize
+    ensures { result ≡ length (spliced cut.now.front.now cut.now.node.now by cut.now.behind.now) }
 {
-    if cut.front.len() + made_size(cut.node, by) + cut.behind.len() > most {
-        return false;
-    }
+    cut.front.len() + made_size(cut.node, by) + cut.behind.len()
+}
+
+// Writes the term with the node of the cut replaced.
+fn rewrite(out: &mut Room, cut: &Cut, by: Made)
+    requires wordable { Wordable by }
+    requires room { length (spliced cut.now.front.now cut.now.node.now by cut.now.behind.now) ≤ 1024 }
+    ensures { out.new ≡ spliced cut.now.front.now cut.now.node.now by cut.now.behind.now }
+{
     out.clear();
     out.append(cut.front);
     write_made(out, cut.node, by);
     out.append(cut.behind);
+}
+
+// Replaces the node of the term at the spot, if the term then has at most so many words; whether it has. It is written into the other room.
+pub(crate) fn replace(term: &mut Room, next: &mut Room, spot: Spot, by: Made, most: usize) -> bool
+    requires few { (length term.old ≤ 1024) × (most ≤ 1024) }
+    requires within { (spot.outer ≤ spot.node) × (spot.node ≤ length term.old) }
+    requires wordable { Wordable by }
+    ensures fits { result ≡ nat_le (length (rewritten term.old spot.outer spot.node by)) most }
+    ensures words { term.new ≡ (if result then rewritten term.old spot.outer spot.node by else term.old) }
+{
+    let parts = cut_at(term.as_slice(), spot);
+    if new_size(&parts, by) > most {
+        return false;
+    }
+    rewrite(next, &parts, by);
+    swap(term, next);
     true
 }

@@ -7,8 +7,7 @@ ghost use Rattle.steppers.specs.Loading.{laws_of};
 
 use crate::accept::admit;
 use crate::action::Action;
-use crate::change::rewrite;
-use crate::cut::cut_at;
+use crate::change::replace;
 use crate::find::find;
 use crate::look::look;
 use crate::machine::Machine;
@@ -18,7 +17,6 @@ use languages::answers::{Loaded, Stepped};
 use languages::language::{Language, SHOWN_WORDS};
 use languages::refusal::{Refusal, STEPPER};
 use std::alloc::{AllocError, Global};
-use std::mem::swap;
 
 // Whether the whole term has ended.
 fn is_over<S: Stepper>(term: &[u32]) -> bool
@@ -80,11 +78,11 @@ impl<S: Stepper + Drop> Language for Machine<S> {
         let spot = find::<S>(term, inputs);
         match spot.action {
             Action::Replace { effect, by } => {
-                if !rewrite(&mut self.next, &cut_at(term, spot), by, S::CAPACITY) {
-                    return Ok(Stepped::Full);
+                if replace(&mut self.term, &mut self.next, spot, by, S::CAPACITY) {
+                    Ok(Stepped::Moved { effect })
+                } else {
+                    Ok(Stepped::Full)
                 }
-                swap(&mut self.term, &mut self.next);
-                Ok(Stepped::Moved { effect })
             }
             // the next term is the term itself
             Action::Wait if term.len() <= S::CAPACITY => Ok(Stepped::Moved { effect: 0 }),

@@ -1,6 +1,5 @@
-use Rattle.std.proofs.Common.{sym, ap, ◌∙◌, subst, length, ◌≤◌, arith, rules}
-use Rattle.steppers.proofs.Making.{spliced_cut}
-use Rattle.steppers.proofs.Machining.{no_words, ready, steps_nothing, steps_ended, waits, waits_full, sticks, rewrites}
+use Rattle.std.proofs.Common.{sym, ap, ◌∙◌, length, arith}
+use Rattle.steppers.proofs.Machining.{no_words, ready, steps_nothing, steps_ended, waits, waits_full, sticks, replaces}
 use Rattle.steppers.proofs.run.MachineLanguage.step.Goals as goal
 
 pub returns-then-is_empty-clause-answer : goal.returns-then-is_empty-clause-answer
@@ -11,33 +10,30 @@ pub returns-then-is_over-clause-answer : goal.returns-then-is_over-clause-answer
 returns-then-is_over-clause-answer g c =
     steps_ended g.S.Stepper.table g.met.S.Stepper.sound _ _ c.args.inputs c.as_slice-term.ensures c.args.self.now.holds c.if-is_empty.ensures c.if-is_over.ensures
 
-pub cut_at-requires-clause-few : goal.cut_at-requires-clause-few
-cut_at-requires-clause-few g c =
+pub replace-requires-clause-few : goal.replace-requires-clause-few
+replace-requires-clause-few g c =
     let r = ready g.S.Stepper.table g.met.S.Stepper.sound _ _ c.args.inputs c.find-spot.result c.as_slice-term.ensures c.args.self.now.holds c.if-is_empty.ensures c.if-is_over.ensures c.find-spot.ensures in
-    subst (λ xs. length xs ≤ 1024) (sym c.as_slice-term.ensures) r.few
+    (r.few, omega (arith, c.CAPACITY.ensures, g.met.S.Stepper.same_capacity, g.met.S.Stepper.sound.holds_few))
 
-pub rewrite-requires-clause-wordable : goal.rewrite-requires-clause-wordable
-rewrite-requires-clause-wordable g c =
+pub replace-requires-clause-wordable : goal.replace-requires-clause-wordable
+replace-requires-clause-wordable g c =
     let r = ready g.S.Stepper.table g.met.S.Stepper.sound _ _ c.args.inputs c.find-spot.result c.as_slice-term.ensures c.args.self.now.holds c.if-is_empty.ensures c.if-is_over.ensures c.find-spot.ensures in
-    (rewrites g.S.Stepper.table g.met.S.Stepper.sound _ _ _ r _ _ c.in-Replace.is).wordable
+    (replaces g.S.Stepper.table g.met.S.Stepper.sound _ _ _ r _ _ c.in-Replace.is).wordable
 
-pub returns-then-not-rewrite-clause-answer : goal.returns-then-not-rewrite-clause-answer
-returns-then-not-rewrite-clause-answer g c =
+pub invariant_of-self : goal.invariant_of-self
+invariant_of-self g c =
     let r = ready g.S.Stepper.table g.met.S.Stepper.sound _ _ c.args.inputs c.find-spot.result c.as_slice-term.ensures c.args.self.now.holds c.if-is_empty.ensures c.if-is_over.ensures c.find-spot.ensures in
-    let next = spliced_cut _ _ _ _ _ c.find-spot.result c.in-Replace.by c.as_slice-term.ensures c.cut_at.ensures.front c.cut_at.ensures.node c.cut_at.ensures.behind in
-    (rewrites g.S.Stepper.table g.met.S.Stepper.sound _ _ _ r _ _ c.in-Replace.is).full _ _ next (c.CAPACITY.ensures ∙ sym g.met.S.Stepper.same_capacity) c.if-not-rewrite.ensures.answer
+    record { holds = (replaces g.S.Stepper.table g.met.S.Stepper.sound _ _ _ r _ _ c.in-Replace.is).held_after c.replace.result _ _ (c.CAPACITY.ensures ∙ sym g.met.S.Stepper.same_capacity) c.replace.ensures.fits c.replace.ensures.words }
 
-pub invariant_of-self-in-Replace : goal.invariant_of-self-in-Replace
-invariant_of-self-in-Replace g c =
+pub returns-then-replace-clause-answer : goal.returns-then-replace-clause-answer
+returns-then-replace-clause-answer g c =
     let r = ready g.S.Stepper.table g.met.S.Stepper.sound _ _ c.args.inputs c.find-spot.result c.as_slice-term.ensures c.args.self.now.holds c.if-is_empty.ensures c.if-is_over.ensures c.find-spot.ensures in
-    let next = spliced_cut _ _ _ _ _ c.find-spot.result c.in-Replace.by c.as_slice-term.ensures c.cut_at.ensures.front c.cut_at.ensures.node c.cut_at.ensures.behind in
-    record { holds = ((rewrites g.S.Stepper.table g.met.S.Stepper.sound _ _ _ r _ _ c.in-Replace.is).fitting _ _ _ next (c.CAPACITY.ensures ∙ sym g.met.S.Stepper.same_capacity) c.if-not-rewrite.ensures.answer (c.swap.ensures.x_after ∙ c.if-not-rewrite.ensures.items (search rules))).0 }
+    (replaces g.S.Stepper.table g.met.S.Stepper.sound _ _ _ r _ _ c.in-Replace.is).fitting _ _ (c.CAPACITY.ensures ∙ sym g.met.S.Stepper.same_capacity) c.if-replace.ensures.fits c.if-replace.ensures.words
 
-pub returns-else-not-rewrite-clause-answer : goal.returns-else-not-rewrite-clause-answer
-returns-else-not-rewrite-clause-answer g c =
+pub returns-else-replace-clause-answer : goal.returns-else-replace-clause-answer
+returns-else-replace-clause-answer g c =
     let r = ready g.S.Stepper.table g.met.S.Stepper.sound _ _ c.args.inputs c.find-spot.result c.as_slice-term.ensures c.args.self.now.holds c.if-is_empty.ensures c.if-is_over.ensures c.find-spot.ensures in
-    let next = spliced_cut _ _ _ _ _ c.find-spot.result c.in-Replace.by c.as_slice-term.ensures c.cut_at.ensures.front c.cut_at.ensures.node c.cut_at.ensures.behind in
-    ((rewrites g.S.Stepper.table g.met.S.Stepper.sound _ _ _ r _ _ c.in-Replace.is).fitting _ _ _ next (c.CAPACITY.ensures ∙ sym g.met.S.Stepper.same_capacity) c.if-not-rewrite.ensures.answer (c.swap.ensures.x_after ∙ c.if-not-rewrite.ensures.items (search rules))).1
+    (replaces g.S.Stepper.table g.met.S.Stepper.sound _ _ _ r _ _ c.in-Replace.is).full _ _ (c.CAPACITY.ensures ∙ sym g.met.S.Stepper.same_capacity) c.if-replace.ensures.fits c.if-replace.ensures.words
 
 pub returns-in-Wait-clause-answer : goal.returns-in-Wait-clause-answer
 returns-in-Wait-clause-answer g c =
