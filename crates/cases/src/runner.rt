@@ -2,6 +2,7 @@
 use crate::case::Answer;
 use lists::list::RuleList;
 use lists::parts::Rule;
+use lists::refusal::Fault;
 use std::alloc::Global;
 use std::io;
 
@@ -18,7 +19,7 @@ fn answer(place: &mut RuleList, heap: Global, header: &[u8], table: &[u8]) -> An
     match place.accept(heap, header, table) {
         Ok(()) => Answer::Accepted(place.layer(), place.forms().len(), place.rules().len()),
         Err(refusal) => {
-            let fault = refusal.fault();
+            let fault = Fault::from(refusal);
             Answer::Refused(fault.cause, fault.place)
         }
     }

@@ -4,7 +4,7 @@ ghost use Rattle.lists.specs.Refusals.{fault_of};
 ghost use Rattle.replay.specs.Account.{sentence_of, summary_text, verdict_text, list_text};
 
 use crate::verdict::{Summary, Verdict};
-use lists::refusal::Refusal;
+use lists::refusal::{Fault, Refusal};
 use std::fmt;
 
 impl fmt::Display for Summary {
@@ -27,7 +27,7 @@ impl fmt::Display for Verdict {
         match *self {
             Verdict::Accepted(summary) => write!(f, "accepted, {summary}"),
             Verdict::Refused(refusal) => {
-                let fault = refusal.fault();
+                let fault = Fault::from(refusal);
                 let cause = fault.cause;
                 let layer = fault.layer;
                 let place = fault.place;

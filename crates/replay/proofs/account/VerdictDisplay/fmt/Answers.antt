@@ -7,5 +7,5 @@ pub returns-in-Refused-clause-writes : goal.returns-in-Refused-clause-writes
 returns-in-Refused-clause-writes g c plain ok =
     subst
     (λ (l : List ℕ). HasWritten g.W.Write.write_str_gives c.args.f.now l c.write-in-Refused.new.self)
-    (refused_text_lem _ _ _ _ c.in-Refused.is c.fault-fault.ensures c.sentence-reason.ensures)
+    (refused_text_lem _ _ _ _ c.in-Refused.is c.from-fault.ensures c.sentence-reason.ensures)
     (c.write-in-Refused.ensures.writes plain ok)
