@@ -1,7 +1,7 @@
 // Runs cases one after the other on one place for a list, and counts the answers that differ.
 use crate::case::{Accepted, Answer, Case, Refused, Told};
 use lists::list::RuleList;
-use lists::parts::Rule;
+use lists::refusal::Fault;
 use std::alloc::Global;
 use std::io;
 use tally::Tally;
@@ -19,22 +19,10 @@ fn answer(place: &mut RuleList, heap: Global, case: &Case<'_>) -> Answer {
     match place.accept(heap, case.header, case.table) {
         Ok(()) => Ok(Accepted(place.layer(), place.forms().len(), place.rules().len())),
         Err(refusal) => {
-            let fault = refusal.fault();
-            Err(Refused(fault.cause, fault.place))
+            let Fault { cause, place, .. } = Fault::from(refusal);
+            Err(Refused(cause, place))
         }
     }
-}
-
-fn same_rules(these: &[Rule], those: &[Rule]) -> bool {
-    these.len() == those.len()
-        && these.iter().zip(those).all(|(this, that)| this.left == that.left
-            && this.right == that.right)
-}
-
-fn same_lists(this: &RuleList, that: &RuleList) -> bool {
-    this.layer() == that.layer()
-        && this.forms() == that.forms()
-        && same_rules(this.rules(), that.rules())
 }
 
 impl<'a> Runner<'a> {
@@ -47,11 +35,6 @@ impl<'a> Runner<'a> {
         }
     }
 
-    // Whether the place holds the last accepted list.
-    fn is_held(&self) -> bool {
-        same_lists(&self.place, &self.accepted)
-    }
-
     // Runs a case, and prints a line if its answer is another than expected, or if the place does not hold the last accepted list behind it.
     pub fn run(&mut self, case: &Case<'_>) -> io::Result<()> {
         let heap = self.rt.alloc();
@@ -61,7 +44,7 @@ impl<'a> Runner<'a> {
             self.accepted = RuleList::new(heap);
             let _ = self.accepted.accept(heap, case.header, case.table);
         }
-        let held = self.is_held();
+        let held = self.place == self.accepted;
         self.tally.count(found == case.answer && held);
         if found != case.answer {
             let expected = Told(case.answer);

@@ -1,16 +1,18 @@
 -- The faults of a list, rule by rule and form by form.
-use Rattle.std.proofs.Common.{◌≡◌, ℕ, suc, ◌+◌, ◌<◌, ◌≤◌, Bool, true, false, cond, ◌||◌, List, [], ◌∷◌, ◌++◌, map, length, get_or, take, drop, Some, None, sym, refl, ap, ◌∙◌, add-one}
+use Rattle.std.proofs.Common.{◌≡◌, ℕ, suc, ◌+◌, ◌<◌, ◌≤◌, Bool, true, false, not, cond, ◌||◌, List, [], ◌∷◌, ◌++◌, map, length, get_or, take, drop, Some, None, Option, sym, refl, ap, ◌∙◌, add-one}
 use Rattle.std.proofs.lemmas.List.{drop_more, drop_all, take_more, map_push, length-map, length-take-le}
 use Rattle.lists.specs.declared.parts.Form.{Form}
 use Rattle.lists.specs.declared.parts.Rule.{Rule}
 use Rattle.lists.specs.declared.refusal.Refusal.TheVariants.{WrongShape, WrongVariables, Overlap, NoRule}
 use Rattle.lists.specs.Lines.{Sides, sides_of}
-use Rattle.lists.specs.Sides.{any, shaped, linear, is_for}
+use Rattle.std.specs.List.{list_any, position, position_from}
+use Rattle.std.specs.Option.{option_map}
+use Rattle.std.proofs.lemmas.Iterator.Adapters.{position_from-zero}
+use Rattle.lists.specs.Sides.{shaped, linear, is_for}
 use Rattle.lists.specs.Acceptance.{side_fault, overlap_fault, form_fault}
 use Rattle.lists.specs.Sound.{overlaps_some}
 
-pub any-map : {X Y : Type 0} (f : X → Y) (test : Y → Bool) (xs : List X) → any (λ x. test (f x)) xs ≡ any test (map f xs)
-unfolding any
+pub any-map : {X Y : Type 0} (f : X → Y) (test : Y → Bool) (xs : List X) → list_any (λ x. test (f x)) xs ≡ list_any test (map f xs)
 any-map f test [] = refl
 any-map f test (x ∷ xs) = ap (λ t. test (f x) || t) (any-map f test xs)
 
@@ -57,17 +59,16 @@ pub overlaps_end : (rules : List Rule) (n : ℕ) → length rules ≤ n → over
 unfolding overlap_fault
 overlaps_end rules n all = ap (λ l. overlap_fault (map sides_of (take n rules)) (map sides_of l)) (drop_all n rules all)
 
-module _ (rules : List Sides) (forms : List Form) (n : ℕ) (d : Form) (lt : n < length forms) (i : ℕ) where
-  form_at_lem : form_fault rules i (drop n forms) ≡ cond (any (is_for (get_or forms n d)) rules) (form_fault rules (suc i) (drop (n + 1) forms)) (Some (NoRule i))
-  unfolding form_fault
-  form_at_lem = ap (form_fault rules i) (drop_more forms n d lt)
-
-  pub no_rule : any (is_for (get_or forms n d)) rules ≡ false → form_fault rules i (drop n forms) ≡ Some (NoRule i)
-  no_rule e = form_at_lem ∙ ap (λ t. cond t (form_fault rules (suc i) (drop (n + 1) forms)) (Some (NoRule i))) e
-
-  pub some_rule : any (is_for (get_or forms n d)) rules ≡ true → form_fault rules (i + 1) (drop (n + 1) forms) ≡ form_fault rules i (drop n forms)
-  some_rule e = ap (λ m. form_fault rules m (drop (n + 1) forms)) (add-one i) ∙ sym (form_at_lem ∙ ap (λ t. cond t (form_fault rules (suc i) (drop (n + 1) forms)) (Some (NoRule i))) e)
-
-pub forms_end : (rules : List Sides) (forms : List Form) (n i : ℕ) → length forms ≤ n → form_fault rules i (drop n forms) ≡ None
+form_fault-from : (rules : List Sides) (i : ℕ) (forms : List Form) → form_fault rules i forms ≡ option_map (λ k. NoRule k) (position_from (λ f. not (list_any (is_for f) rules)) i forms)
 unfolding form_fault
-forms_end rules forms n i all = ap (form_fault rules i) (drop_all n forms all)
+form_fault-from rules i [] = refl
+form_fault-from rules i (f ∷ fs) = by (list_any (is_for f) rules) (form_fault-from rules (i + 1) fs)
+  where
+    by : (t : Bool) → form_fault rules (i + 1) fs ≡ option_map (λ k. NoRule k) (position_from (λ f. not (list_any (is_for f) rules)) (i + 1) fs) → cond t (form_fault rules (suc i) fs) (Some (NoRule i)) ≡ option_map (λ k. NoRule k) (cond (not t) (Some i) (position_from (λ f. not (list_any (is_for f) rules)) (i + 1) fs))
+    by true rest = ap (λ m. form_fault rules m fs) (sym (add-one i)) ∙ rest
+    by false rest = refl
+
+-- the fault of the forms, by the place of the first form without a rule
+pub form_fault-position : (rules : List Sides) (forms : List Form) (o : Option ℕ) → position (λ f. not (list_any (is_for f) rules)) forms ≡ o → form_fault rules 0 forms ≡ option_map (λ k. NoRule k) o
+form_fault-position rules forms o e =
+    form_fault-from rules 0 forms ∙ ap (option_map (λ k. NoRule k)) (sym (position_from-zero (λ f. not (list_any (is_for f) rules)) forms) ∙ e)

@@ -5,7 +5,8 @@ use Rattle.std.proofs.lemmas.Bool.{and_parts, and_from, not_from_false, not-true
 use Rattle.lists.specs.declared.parts.Form.{Form}
 use Rattle.lists.specs.declared.refusal.Refusal.{Refusal}
 use Rattle.lists.specs.Lines.{Sides}
-use Rattle.lists.specs.Sides.{every, any, shaped, linear, is_for}
+use Rattle.std.specs.List.{list_all, list_any}
+use Rattle.lists.specs.Sides.{shaped, linear, is_for}
 use Rattle.lists.specs.Sound.{all_shaped, all_linear, overlaps_some, none_overlap_from, none_overlap, all_ruled}
 use Rattle.lists.specs.Acceptance.{Listed, side_fault, overlap_fault, form_fault, fault_in}
 use Rattle.texts.proofs.Answering.{some_not_none}
@@ -21,7 +22,7 @@ if_not true o e p = absurd (some_not_none p)
 if_not false o e p = (refl, p)
 
 pub sides_faultless : (k : ℕ) (forms : List Form) (i : ℕ) (ss : List Sides) → side_fault k forms i ss ≡ None → (all_shaped k forms ss ≡ true) × (all_linear ss ≡ true)
-unfolding side_fault every
+unfolding side_fault
 sides_faultless k forms i [] e = (refl, refl)
 sides_faultless k forms i (s ∷ ss) e =
     let shape = unless _ _ _ e in
@@ -30,11 +31,11 @@ sides_faultless k forms i (s ∷ ss) e =
     (and_from _ _ shape.0 rest.0, and_from _ _ variables.0 rest.1)
 
 pub faultless_sides : (k : ℕ) (forms : List Form) (i : ℕ) (ss : List Sides) → all_shaped k forms ss ≡ true → all_linear ss ≡ true → side_fault k forms i ss ≡ None
-unfolding side_fault every
+unfolding side_fault
 faultless_sides k forms i [] a b = refl
 faultless_sides k forms i (s ∷ ss) a b =
-    let p = and_parts (shaped k forms s) (every (shaped k forms) ss) a in
-    let q = and_parts (linear s) (every linear ss) b in
+    let p = and_parts (shaped k forms s) (list_all (shaped k forms) ss) a in
+    let q = and_parts (linear s) (list_all linear ss) b in
     rw (p.0, q.0) (faultless_sides k forms (suc i) ss p.1 q.1)
 
 pub overlaps_faultless : (earlier ss : List Sides) → overlap_fault earlier ss ≡ None → none_overlap_from earlier ss ≡ true
@@ -52,17 +53,17 @@ faultless_overlaps earlier (s ∷ ss) e =
     rw (not-true _ p.0) (faultless_overlaps (earlier ++ s ∷ []) ss p.1)
 
 pub forms_faultless : (rules : List Sides) (i : ℕ) (fs : List Form) → form_fault rules i fs ≡ None → all_ruled fs rules ≡ true
-unfolding form_fault every
+unfolding form_fault
 forms_faultless rules i [] e = refl
 forms_faultless rules i (f ∷ fs) e =
     let here = unless _ _ _ e in
     and_from _ _ here.0 (forms_faultless rules (suc i) fs here.1)
 
 pub faultless_forms : (rules : List Sides) (i : ℕ) (fs : List Form) → all_ruled fs rules ≡ true → form_fault rules i fs ≡ None
-unfolding form_fault every
+unfolding form_fault
 faultless_forms rules i [] e = refl
 faultless_forms rules i (f ∷ fs) e =
-    let p = and_parts (any (is_for f) rules) (every (λ g. any (is_for g) rules) fs) e in
+    let p = and_parts (list_any (is_for f) rules) (list_all (λ g. list_any (is_for g) rules) fs) e in
     rw p.0 (faultless_forms rules (suc i) fs p.1)
 
 -- no fault in either place

@@ -12,7 +12,8 @@ use Rattle.texts.specs.Texts.{readings, head_line, table_line}
 use Rattle.texts.specs.Laws.{Unbroken}
 use Rattle.texts.proofs.Spelt.{read_if_spelled, spelled_if_read}
 use Rattle.lists.specs.Lines.{Sides, Declared, Answers, within, with_forms, judge_header, judge_table}
-use Rattle.lists.specs.Sides.{shaped, linear, left_shaped, right_shaped, once_each, every, bound, form_word}
+use Rattle.std.specs.List.{list_all}
+use Rattle.lists.specs.Sides.{shaped, linear, left_shaped, right_shaped, once_each, bound, form_word}
 use Rattle.lists.specs.Sound.{rising}
 use Rattle.lists.specs.Acceptance.{Listed, short_enough, fault_in, unless_fault, with_header, with_table, accepted}
 use Rattle.lists.specs.Spelling.{header_says, table_says, form_says, rules_say}
@@ -112,7 +113,7 @@ sides_proper k forms s e =
 
 variables_proper : (s : Sides) → linear s ≡ true → (OncePlaced s.left × OncePlaced s.right) × FromLeft s.left s.right
 variables_proper s e =
-    let p = and_parts (once_each s.left && once_each s.right) (every (bound s.left) s.right) e in
+    let p = and_parts (once_each s.left && once_each s.right) (list_all (bound s.left) s.right) e in
     let q = and_parts (once_each s.left) (once_each s.right) p.0 in
     ((placed_once s.left q.0, placed_once s.right q.1), bound_from_left s.left s.right p.1)
 

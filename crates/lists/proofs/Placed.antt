@@ -5,7 +5,8 @@ use Rattle.std.proofs.ByRecursion.{all-has, all_has_itself}
 use Rattle.std.proofs.lemmas.List.{get_or_default}
 use Rattle.std.proofs.lemmas.Bool.{and_parts, and_from, eq-eqb, eqb-true, both_ways, not-true, false≢true}
 use Rattle.terms.specs.Words.{node_of}
-use Rattle.lists.specs.Sides.{every, is_variable, holds, repeated, once_each, bound}
+use Rattle.std.specs.List.{list_all}
+use Rattle.lists.specs.Sides.{is_variable, holds, repeated, once_each, bound}
 use Rattle.lists.specs.Laws.{OncePlaced, FromLeft}
 use Rattle.lists.proofs.Quantified.{all_if_every, every_if_all, all_by, has_if_any, any_if_has}
 
@@ -44,7 +45,7 @@ once_placed (w ∷ ws) p =
         let has = has_if_holds ws w both.1 in
         absurd (p 0 (suc has.0) (omega arith) (let l = has.1 in omega arith) both.0 (sym (has.2 0)))
 
-pub bound_from_left : (left right : List ℕ) → every (bound left) right ≡ true → FromLeft left right
+pub bound_from_left : (left right : List ℕ) → list_all (bound left) right ≡ true → FromLeft left right
 bound_from_left left right e w has v =
     has_if_holds left w (by (is_variable (node_of w)) v (all-has (λ u. bound left u ≡ true) right w (all_if_every (bound left) right e) has))
   where
@@ -52,7 +53,7 @@ bound_from_left left right e w has v =
     by true e h = h
     by false e h = absurd (false≢true e)
 
-pub from_left_bound : (left right : List ℕ) → FromLeft left right → every (bound left) right ≡ true
+pub from_left_bound : (left right : List ℕ) → FromLeft left right → list_all (bound left) right ≡ true
 from_left_bound left right p = every_if_all (bound left) right (all_by (λ w has. by w has (is_variable (node_of w)) refl) right (all_has_itself right))
   where
     by : (w : ℕ) → ContainsAt right w → (t : Bool) → is_variable (node_of w) ≡ t → (not t || holds left w) ≡ true

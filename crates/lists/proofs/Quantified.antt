@@ -2,17 +2,15 @@
 use Rattle.std.proofs.Common.{◌≡◌, ℕ, zero, suc, ◌<◌, Bool, true, false, ◌||◌, List, [], ◌∷◌, length, get_or, refl, ap, ◌∙◌, arith}
 use Rattle.std.specs.List.{ContainsAt, AllByRecursion}
 use Rattle.std.proofs.lemmas.Bool.{and_parts, and_from, or_left, or_right, both_ways, false≢true}
-use Rattle.lists.specs.Sides.{every, any}
+use Rattle.std.specs.List.{list_all, list_any}
 
-pub all_if_every : {X : Type 0} (test : X → Bool) (xs : List X) → every test xs ≡ true → AllByRecursion (λ x. test x ≡ true) xs
-unfolding every
+pub all_if_every : {X : Type 0} (test : X → Bool) (xs : List X) → list_all test xs ≡ true → AllByRecursion (λ x. test x ≡ true) xs
 all_if_every test [] e = tt
-all_if_every test (x ∷ xs) e = let p = and_parts (test x) (every test xs) e in (p.0, all_if_every test xs p.1)
+all_if_every test (x ∷ xs) e = let p = and_parts (test x) (list_all test xs) e in (p.0, all_if_every test xs p.1)
 
-pub every_if_all : {X : Type 0} (test : X → Bool) (xs : List X) → AllByRecursion (λ x. test x ≡ true) xs → every test xs ≡ true
-unfolding every
+pub every_if_all : {X : Type 0} (test : X → Bool) (xs : List X) → AllByRecursion (λ x. test x ≡ true) xs → list_all test xs ≡ true
 every_if_all test [] p = refl
-every_if_all test (x ∷ xs) p = and_from (test x) (every test xs) p.0 (every_if_all test xs p.1)
+every_if_all test (x ∷ xs) p = and_from (test x) (list_all test xs) p.0 (every_if_all test xs p.1)
 
 -- one property of each element from another
 pub all_by : {X : Type 0} {P Q : X → Type 0} → ((x : X) → P x → Q x) → (xs : List X) → AllByRecursion P xs → AllByRecursion Q xs
@@ -33,31 +31,29 @@ has_first x xs = (0, omega arith, λ d. refl)
 pub has_later : {X : Type 0} (y : X) (xs : List X) (x : X) → ContainsAt xs x → ContainsAt (y ∷ xs) x
 has_later y xs x h = (suc h.0, (let l = h.1 in omega arith), h.2)
 
-pub has_if_any : {X : Type 0} (test : X → Bool) (xs : List X) → any test xs ≡ true → (x : X) × ContainsAt xs x × (test x ≡ true)
-unfolding any
+pub has_if_any : {X : Type 0} (test : X → Bool) (xs : List X) → list_any test xs ≡ true → (x : X) × ContainsAt xs x × (test x ≡ true)
 has_if_any test [] e = absurd (false≢true e)
 has_if_any test (y ∷ ys) e = by (has_if_any test ys) (test y) refl e
   where
-    by : (any test ys ≡ true → (x : _) × ContainsAt ys x × (test x ≡ true)) → (t : Bool) → test y ≡ t → (t || any test ys) ≡ true → (x : _) × ContainsAt (y ∷ ys) x × (test x ≡ true)
+    by : (list_any test ys ≡ true → (x : _) × ContainsAt ys x × (test x ≡ true)) → (t : Bool) → test y ≡ t → (t || list_any test ys) ≡ true → (x : _) × ContainsAt (y ∷ ys) x × (test x ≡ true)
     by rest true t e = (y, has_first y ys, t)
     by rest false t e = let r = rest e in (r.0, has_later y ys r.0 r.1, r.2)
 
-any_at : {X : Type 0} (test : X → Bool) (xs : List X) (x : X) (k : ℕ) → k < length xs → get_or xs k x ≡ x → test x ≡ true → any test xs ≡ true
-unfolding any
+any_at : {X : Type 0} (test : X → Bool) (xs : List X) (x : X) (k : ℕ) → k < length xs → get_or xs k x ≡ x → test x ≡ true → list_any test xs ≡ true
 any_at test [] x k l e t = absurd (omega arith)
-any_at test (y ∷ ys) x zero l e t = or_left (test y) (any test ys) (ap test e ∙ t)
-any_at test (y ∷ ys) x (suc k) l e t = or_right (test y) (any test ys) (any_at test ys x k (omega arith) e t)
+any_at test (y ∷ ys) x zero l e t = or_left (test y) (list_any test ys) (ap test e ∙ t)
+any_at test (y ∷ ys) x (suc k) l e t = or_right (test y) (list_any test ys) (any_at test ys x k (omega arith) e t)
 
-pub any_if_has : {X : Type 0} (test : X → Bool) (xs : List X) (x : X) → ContainsAt xs x → test x ≡ true → any test xs ≡ true
+pub any_if_has : {X : Type 0} (test : X → Bool) (xs : List X) (x : X) → ContainsAt xs x → test x ≡ true → list_any test xs ≡ true
 any_if_has test xs x h t = any_at test xs x h.0 h.1 (h.2 x) t
 
 -- no element passes the test
-pub none_if_not_any : {X : Type 0} (test : X → Bool) (xs : List X) (x : X) → any test xs ≡ false → ContainsAt xs x → test x ≡ true → ⊥
-none_if_not_any test xs x e h t = both_ways (any test xs) e (any_if_has test xs x h t)
+pub none_if_not_any : {X : Type 0} (test : X → Bool) (xs : List X) (x : X) → list_any test xs ≡ false → ContainsAt xs x → test x ≡ true → ⊥
+none_if_not_any test xs x e h t = both_ways (list_any test xs) e (any_if_has test xs x h t)
 
-pub not_any_if_none : {X : Type 0} (test : X → Bool) (xs : List X) → ((x : X) → ContainsAt xs x → test x ≡ true → ⊥) → any test xs ≡ false
-not_any_if_none test xs h = by (any test xs) refl
+pub not_any_if_none : {X : Type 0} (test : X → Bool) (xs : List X) → ((x : X) → ContainsAt xs x → test x ≡ true → ⊥) → list_any test xs ≡ false
+not_any_if_none test xs h = by (list_any test xs) refl
   where
-    by : (t : Bool) → any test xs ≡ t → t ≡ false
+    by : (t : Bool) → list_any test xs ≡ t → t ≡ false
     by false e = refl
     by true e = let r = has_if_any test xs e in absurd (h r.0 r.1 r.2)

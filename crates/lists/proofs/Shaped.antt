@@ -12,14 +12,15 @@ use Rattle.terms.specs.Laws.{Whole}
 use Rattle.terms.proofs.Nodes.{node_atom, node_variable, node_body, node_head, node_form, Stands, stands}
 use Rattle.terms.proofs.Verdicts.{whole_means}
 use Rattle.lists.specs.declared.parts.Form as declared
-use Rattle.lists.specs.Sides.{every, any, is_atom, is_variable, is_lower_form, is_argument, on_right, form_word, left_shaped, right_shaped}
+use Rattle.std.specs.List.{list_all, list_any}
+use Rattle.lists.specs.Sides.{is_atom, is_variable, is_lower_form, is_argument, on_right, form_word, left_shaped, right_shaped}
 use Rattle.lists.specs.Laws.{LeftSide, RightSide}
 use Rattle.lists.proofs.Quantified.{all_if_every, every_if_all, all_by, has_if_any, any_if_has}
 
 pub left_side : (forms : List declared.Form) (left : List ℕ) → left_shaped forms left ≡ true → LeftSide forms left
 left_side forms [] e = absurd (false≢true e)
 left_side forms (w ∷ args) e =
-    let p = and_parts (any (λ f. eqb (form_word f) w && eqb (length args) f.count) forms) (every is_argument args) e in
+    let p = and_parts (list_any (λ f. eqb (form_word f) w && eqb (length args) f.count) forms) (list_all is_argument args) e in
     let f = has_if_any (λ f. eqb (form_word f) w && eqb (length args) f.count) forms p.0 in
     let fits = and_parts (eqb (form_word f.0) w) (eqb (length args) f.0.count) f.2 in
     (f.0, args, f.1, ap (λ v. v ∷ args) (sym (eqb-true (form_word f.0) w fits.0)), eqb-true (length args) f.0.count fits.1, all_if_every is_argument args p.1)
@@ -61,8 +62,8 @@ lower_root k (form l ts) w ws made is e = (l, ts, refl)
 pub right_side : (k : ℕ) (right : List ℕ) → right_shaped k right ≡ true → RightSide k right
 right_side k [] e = absurd (false≢true e)
 right_side k (w ∷ ws) e =
-    let p = and_parts (is_lower_form k (node_of w) && every (on_right k) ws) (is_tree (w ∷ ws)) e in
-    let q = and_parts (is_lower_form k (node_of w)) (every (on_right k) ws) p.0 in
+    let p = and_parts (is_lower_form k (node_of w) && list_all (on_right k) ws) (is_tree (w ∷ ws)) e in
+    let q = and_parts (is_lower_form k (node_of w)) (list_all (on_right k) ws) p.0 in
     let t = tree_if (w ∷ ws) p.1 in
     let root = lower_root k t.0 w ws t.1 t.2 q.0 in (
       root.0,

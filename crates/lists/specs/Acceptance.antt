@@ -6,7 +6,8 @@ use Rattle.lists.specs.declared.refusal.Refusal.{Refusal}
 use Rattle.lists.specs.declared.refusal.Refusal.TheVariants.{TextTooLong, WrongShape, WrongVariables, Overlap, NoRule}
 use Rattle.texts.specs.Texts.{readings}
 use Rattle.lists.specs.Lines.{Sides, Declared, judge_header, judge_table}
-use Rattle.lists.specs.Sides.{any, shaped, linear, is_for}
+use Rattle.std.specs.List.{list_any}
+use Rattle.lists.specs.Sides.{shaped, linear, is_for}
 use Rattle.lists.specs.Sound.{overlaps_some}
 
 -- a list: its layer, its forms and the sides of its rules
@@ -32,7 +33,7 @@ overlap_fault earlier (s ∷ ss) = cond (overlaps_some earlier s) (Some (Overlap
 -- the first form, from form i on, without a rule
 unfoldable pub form_fault : List Sides → ℕ → List Form → Option Refusal
 form_fault rules i [] = None
-form_fault rules i (f ∷ fs) = cond (any (is_for f) rules) (form_fault rules (suc i) fs) (Some (NoRule i))
+form_fault rules i (f ∷ fs) = cond (list_any (is_for f) rules) (form_fault rules (suc i) fs) (Some (NoRule i))
 
 -- what is wrong with a list whose lines are all in order: first in a rule's sides, then an overlap, then a form without a rule
 unfoldable pub fault_in : Listed → Option Refusal

@@ -1,20 +1,12 @@
 -- The two sides of a rule: their shape, their variables, and what two left sides have in common.
 use Rattle.std.specs.Prelude.{ℕ, ◌+◌, ◌*◌, Bool, true, false, not, ◌&&◌, ◌||◌, List, [], ◌∷◌, length, Some, None, Option, ◌==◌, nat_eq, nat_lt}
+use Rattle.std.specs.List.{list_all, list_any}
 use Rattle.terms.specs.declared.words.Node.{Node}
 use Rattle.terms.specs.declared.words.Node.TheVariants.{Atom, Variable, Body, Head, Form}
 use Rattle.terms.specs.Words.{word, node_of}
 use Rattle.terms.specs.Fronts.{is_tree}
 use Rattle.lists.specs.declared.parts.Form as declared
 use Rattle.lists.specs.Lines.{Sides}
-
--- every element passes the test; some element does
-unfoldable pub every : {X : Type 0} → (X → Bool) → List X → Bool
-every test [] = true
-every test (x ∷ xs) = test x && every test xs
-
-unfoldable pub any : {X : Type 0} → (X → Bool) → List X → Bool
-any test [] = false
-any test (x ∷ xs) = test x || any test xs
 
 abbrev pub is_atom : Option Node → Bool
 is_atom None = false
@@ -55,19 +47,19 @@ form_word f = word f.label f.count
 -- a left side: a declared form with its declared count, and that many arguments
 abbrev pub left_shaped : List declared.Form → List ℕ → Bool
 left_shaped forms [] = false
-left_shaped forms (w ∷ args) = any (λ f. (form_word f == w) && length args == f.count) forms && every is_argument args
+left_shaped forms (w ∷ args) = list_any (λ f. (form_word f == w) && length args == f.count) forms && list_all is_argument args
 
 -- a right side: one tree of atoms, variables and lower forms, its root a form
 abbrev pub right_shaped : ℕ → List ℕ → Bool
 right_shaped k [] = false
-right_shaped k (w ∷ ws) = is_lower_form k (node_of w) && every (on_right k) ws && is_tree (w ∷ ws)
+right_shaped k (w ∷ ws) = is_lower_form k (node_of w) && list_all (on_right k) ws && is_tree (w ∷ ws)
 
 abbrev pub shaped : ℕ → List declared.Form → Sides → Bool
 shaped k forms s = left_shaped forms s.left && right_shaped k s.right
 
 -- the word stands among the words
 abbrev pub holds : List ℕ → ℕ → Bool
-holds ws w = any (nat_eq w) ws
+holds ws w = list_any (nat_eq w) ws
 
 -- a variable that stands again behind
 abbrev pub repeated : List ℕ → ℕ → Bool
@@ -83,7 +75,7 @@ abbrev pub bound : List ℕ → ℕ → Bool
 bound left w = not (is_variable (node_of w)) || holds left w
 
 abbrev pub linear : Sides → Bool
-linear s = once_each s.left && once_each s.right && every (bound s.left) s.right
+linear s = once_each s.left && once_each s.right && list_all (bound s.left) s.right
 
 -- two different atoms
 abbrev pub clash : ℕ → ℕ → Bool

@@ -6,7 +6,7 @@ ghost use Rattle.lists.specs.Acceptance.{blank, accepted};
 ghost use Rattle.lists.specs.Held.{listed_in, Decided};
 ghost use Rattle.lists.specs.Laws.{Means};
 
-use crate::faults::fault_in;
+use crate::faults::Draft;
 use crate::header::read_header;
 use crate::layer::Layer;
 use crate::list::RuleList;
@@ -26,7 +26,12 @@ fn read_list(heap: Global, header: &[u8], table: &[u8]) -> Result<RuleList, Refu
     }
     let Header { head, forms } = read_header(heap, header)?;
     let rules = read_table(heap, &head, table)?;
-    match fault_in(head.layer, &forms, &rules) {
+    let draft = Draft {
+        layer: head.layer,
+        forms: &forms,
+        rules: &rules,
+    };
+    match draft.fault() {
         Some(refusal) => Err(refusal),
         None => Ok(RuleList {
             layer: head.layer,

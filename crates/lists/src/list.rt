@@ -8,7 +8,7 @@ use crate::layer::Layer;
 use crate::parts::{Form, Rule};
 
 // An accepted list: its layer, its forms with their counts, and its rules. What the rules ask of a list holds of every value.
-#[derive(Drop)]
+#[derive(Drop, PartialEq, Eq)]
 pub struct RuleList {
     pub(crate) layer: Layer,
     pub(crate) forms: Vec<Form>,

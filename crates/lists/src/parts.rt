@@ -11,7 +11,7 @@ pub struct Form {
 }
 
 // A rule: the words of its left side and of its right side.
-#[derive(Debug, Drop)]
+#[derive(Debug, Drop, PartialEq, Eq)]
 pub struct Rule {
     pub left: Vec<u32>,
     pub right: Vec<u32>,

@@ -63,12 +63,12 @@ const ACCEPTANCE: u32 = 9;
 
 const TABLE_PLACES: u64 = 1000;
 
-impl Place {
-    // The line's number, from 1; the table's lines have 1,000 more.
-    pub fn number(self) -> u64
-        ensures { result ≡ place_of self }
-    {
-        match self {
+// The line's number, from 1; the table's lines have 1,000 more.
+impl From<Place> for u64 {
+    ghost from_gives = { λ p n. n ≡ place_of p };
+
+    fn from(place: Place) -> u64 {
+        match place {
             Place::Head => 1,
             Place::Form(i) => 2 + u64::from(i),
             Place::Table => TABLE_PLACES + 1,
@@ -77,21 +77,21 @@ impl Place {
     }
 }
 
-impl Refusal {
-    // The refusal's cause, layer and place.
-    pub fn fault(self) -> Fault
-        ensures { result ≡ fault_of self }
-    {
-        let (cause, place) = match self {
+// The refusal's cause, layer and place.
+impl From<Refusal> for Fault {
+    ghost from_gives = { λ r f. f ≡ fault_of r };
+
+    fn from(refusal: Refusal) -> Fault {
+        let (cause, place) = match refusal {
             Refusal::TextTooLong => (TEXT_TOO_LONG, 0),
-            Refusal::LineBroken(line) => (LINE_BROKEN, line.number()),
-            Refusal::LineMissing(line) => (LINE_COUNT, line.number()),
-            Refusal::LineExtra(line) => (LINE_COUNT, line.number()),
-            Refusal::TableDiffers => (LINE_COUNT, Place::Table.number()),
-            Refusal::WrongShape(rule) => (WRONG_SHAPE, Place::Rule(rule).number()),
-            Refusal::WrongVariables(rule) => (WRONG_VARIABLES, Place::Rule(rule).number()),
-            Refusal::Overlap(rule) => (OVERLAP, Place::Rule(rule).number()),
-            Refusal::NoRule(form) => (NO_RULE, Place::Form(form).number()),
+            Refusal::LineBroken(line) => (LINE_BROKEN, u64::from(line)),
+            Refusal::LineMissing(line) => (LINE_COUNT, u64::from(line)),
+            Refusal::LineExtra(line) => (LINE_COUNT, u64::from(line)),
+            Refusal::TableDiffers => (LINE_COUNT, u64::from(Place::Table)),
+            Refusal::WrongShape(rule) => (WRONG_SHAPE, u64::from(Place::Rule(rule))),
+            Refusal::WrongVariables(rule) => (WRONG_VARIABLES, u64::from(Place::Rule(rule))),
+            Refusal::Overlap(rule) => (OVERLAP, u64::from(Place::Rule(rule))),
+            Refusal::NoRule(form) => (NO_RULE, u64::from(Place::Form(form))),
             Refusal::NoMemory => (NO_MEMORY, 0),
         };
         Fault {

@@ -2,7 +2,8 @@
 ghost use Rattle.std.specs.Prelude.{◌≡◌, ◌&&◌, ◌==◌};
 ghost use Rattle.terms.specs.Words.{node_of};
 ghost use Rattle.lists.specs.Lines.{sides_of};
-ghost use Rattle.lists.specs.Sides.{any, every, is_atom, is_variable, is_lower_form, is_argument, on_right, form_word, left_shaped, right_shaped, shaped, holds, repeated, once_each, bound, linear, clash, agree, overlapping, is_for};
+ghost use Rattle.std.specs.List.{list_all, list_any};
+ghost use Rattle.lists.specs.Sides.{is_atom, is_variable, is_lower_form, is_argument, on_right, form_word, left_shaped, right_shaped, shaped, holds, repeated, once_each, bound, linear, clash, agree, overlapping, is_for};
 
 use crate::layer::Layer;
 use crate::parts::{Form, Rule};
@@ -12,29 +13,20 @@ use terms::words::{LABEL_UNIT, Node, decode};
 fn is_atom(word: u32) -> bool
     ensures { result ≡ is_atom (node_of word) }
 {
-    match decode(word) {
-        Some(Node::Atom { .. }) => true,
-        _ => false,
-    }
+    matches!(decode(word), Some(Node::Atom { .. }))
 }
 
 fn is_variable(word: u32) -> bool
     ensures { result ≡ is_variable (node_of word) }
 {
-    match decode(word) {
-        Some(Node::Variable { .. }) => true,
-        _ => false,
-    }
+    matches!(decode(word), Some(Node::Variable { .. }))
 }
 
 // A form whose label is below those of layer k.
 fn is_lower_form(k: Layer, word: u32) -> bool
     ensures { result ≡ is_lower_form k (node_of word) }
 {
-    match decode(word) {
-        Some(Node::Form { label, .. }) => label < k.first_label(),
-        _ => false,
-    }
+    matches!(decode(word), Some(Node::Form { label, .. }) if label < k.first_label())
 }
 
 fn is_argument(word: u32) -> bool
@@ -51,25 +43,15 @@ fn stands_right(k: Layer, word: u32) -> bool
 }
 
 fn all_arguments(words: &[u32]) -> bool
-    ensures { result ≡ every is_argument words.now }
+    ensures { result ≡ list_all is_argument words.now }
 {
-    for word in words {
-        if !is_argument(*word) {
-            return false;
-        }
-    }
-    true
+    words.iter().all(|word| is_argument(*word))
 }
 
 fn all_stand_right(k: Layer, words: &[u32]) -> bool
-    ensures { result ≡ every (on_right k) words.now }
+    ensures { result ≡ list_all (on_right k) words.now }
 {
-    for word in words {
-        if !stands_right(k, *word) {
-            return false;
-        }
-    }
-    true
+    words.iter().all(|word| stands_right(k, *word))
 }
 
 // Whether the word is the form's: its label, and its count of children.
@@ -87,14 +69,9 @@ fn begins(form: Form, word: u32, arguments: usize) -> bool
 }
 
 fn is_declared(forms: &[Form], word: u32, arguments: usize) -> bool
-    ensures { result ≡ any (λ f. (form_word f == word) && arguments == f.count) forms.now }
+    ensures { result ≡ list_any (λ f. (form_word f == word) && arguments == f.count) forms.now }
 {
-    for form in forms {
-        if begins(*form, word, arguments) {
-            return true;
-        }
-    }
-    false
+    forms.iter().any(|form| begins(*form, word, arguments))
 }
 
 fn is_left_shaped(forms: &[Form], left: &[u32]) -> bool
@@ -121,12 +98,7 @@ fn is_right_shaped(k: Layer, right: &[u32]) -> bool
 fn is_held(words: &[u32], word: u32) -> bool
     ensures { result ≡ holds words.now word }
 {
-    for other in words {
-        if word == *other {
-            return true;
-        }
-    }
-    false
+    words.contains(&word)
 }
 
 // Whether the word is a variable that stands again behind it.
@@ -157,14 +129,9 @@ fn is_bound(left: &[u32], word: u32) -> bool
 
 // Every variable of the right side stands on the left.
 fn all_bound(left: &[u32], right: &[u32]) -> bool
-    ensures { result ≡ every (bound left.now) right.now }
+    ensures { result ≡ list_all (bound left.now) right.now }
 {
-    for word in right {
-        if !is_bound(left, *word) {
-            return false;
-        }
-    }
-    true
+    right.iter().all(|word| is_bound(left, *word))
 }
 
 fn is_clash(v: u32, w: u32) -> bool
@@ -177,14 +144,7 @@ fn is_clash(v: u32, w: u32) -> bool
 fn all_agree(these: &[u32], those: &[u32]) -> bool
     ensures { result ≡ agree these.now those.now }
 {
-    let mut i = 0;
-    while i < these.len() && i < those.len() {
-        if is_clash(these[i], those[i]) {
-            return false;
-        }
-        i += 1;
-    }
-    true
+    these.iter().zip(those).all(|(v, w)| !is_clash(*v, *w))
 }
 
 fn is_overlap(these: &[u32], those: &[u32]) -> bool

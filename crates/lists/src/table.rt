@@ -58,12 +58,12 @@ fn words_from(heap: Global, fields: &[u32]) -> Result<Option<Vec<u32>>, AllocErr
 {
     let mut words = Vec::new(heap);
     let mut rest = fields;
-    while rest.len() > 1 {
-        let Some(word) = word_from(rest[0], rest[1]) else {
+    while let [label, payload, behind @ ..] = rest {
+        let Some(word) = word_from(*label, *payload) else {
             return Ok(None);
         };
         words.push(word)?;
-        rest = &rest[2..];
+        rest = behind;
     }
     if rest.is_empty() {
         Ok(Some(words))

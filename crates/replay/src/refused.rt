@@ -31,7 +31,7 @@ impl Explained for ListRefusal {
     ghost sentence = { λ r. sentence_of (of_lists.fault_of r).cause };
 
     fn fault(self) -> Fault {
-        ListRefusal::fault(self)
+        Fault::from(self)
     }
 
     fn sentence(self) -> &'static str {

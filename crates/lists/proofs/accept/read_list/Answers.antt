@@ -26,24 +26,25 @@ returns-in_err-rules c =
     let p = err_from_is_err_and c.from_residual-in_err-rules.result c.from_residual-in_err-rules.ensures.1 in
     passed_on listed_in _ _ _ _ p.1 p.2 (⊎_elim inl (λ e. inr (head ∙ ap (with_table (declared_by c.in_ok-head.field-0)) e)) c.in_err-rules.ensures)
 
-pub fault_in-requires : goal.fault_in-requires
-fault_in-requires c =
-    few_parts _ _ _ _ _ _ c.in_ok-head.ensures c.in_ok-rules.ensures c.deref.ensures.value c.deref-2.ensures.value
+pub invariant_of-draft : goal.invariant_of-draft
+invariant_of-draft c =
+    let few = few_parts _ _ _ _ _ _ c.in_ok-head.ensures c.in_ok-rules.ensures c.deref.ensures.value c.deref-2.ensures.value in
+    record { few_forms = few.0; few_rules = few.1 }
 
 pub returns-in-Some : goal.returns-in-Some
 returns-in-Some c =
     let short = and_from _ _ (le-leb _ 16384 c.if-header-gt-MOST_BYTES.false) (le-leb _ 16384 c.if-table-gt-MOST_BYTES.false) in
-    let fault = same_fault _ _ _ _ _ _ c.deref.ensures.value c.deref-2.ensures.value (sym c.in-Some.is ∙ c.fault_in.ensures) in
+    let fault = same_fault _ _ _ _ _ _ c.deref.ensures.value c.deref-2.ensures.value (sym c.in-Some.is ∙ c.fault.ensures) in
     inr (by_table _ _ _ _ short c.in_ok-head.ensures c.in_ok-rules.ensures ∙ ap (unless_fault _) fault)
 
 pub invariant_of-result : goal.invariant_of-result
 invariant_of-result c =
     let keeps = header_keeps _ _ c.in_ok-head.ensures in
-    let clean = no_fault _ (same_fault _ _ _ _ _ _ c.deref.ensures.value c.deref-2.ensures.value (sym c.in-None.is ∙ c.fault_in.ensures)) in
+    let clean = no_fault _ (same_fault _ _ _ _ _ _ c.deref.ensures.value c.deref-2.ensures.value (sym c.in-None.is ∙ c.fault.ensures)) in
     record { layered = keeps.layer; rising = keeps.rising_forms; shaped = clean.shaped; linear = clean.linear; apart = clean.apart; ruled = clean.ruled }
 
 pub returns-in-None : goal.returns-in-None
 returns-in-None c =
     let short = and_from _ _ (le-leb _ 16384 c.if-header-gt-MOST_BYTES.false) (le-leb _ 16384 c.if-table-gt-MOST_BYTES.false) in
-    let fault = same_fault _ _ _ _ _ _ c.deref.ensures.value c.deref-2.ensures.value (sym c.in-None.is ∙ c.fault_in.ensures) in
+    let fault = same_fault _ _ _ _ _ _ c.deref.ensures.value c.deref-2.ensures.value (sym c.in-None.is ∙ c.fault.ensures) in
     by_table _ _ _ _ short c.in_ok-head.ensures c.in_ok-rules.ensures ∙ ap (unless_fault _) fault

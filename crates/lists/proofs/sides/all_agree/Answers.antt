@@ -1,15 +1,13 @@
-use Rattle.std.proofs.Common.{sym, ◌∙◌}
-use Rattle.lists.proofs.Scanning.{agree_stops, agree_goes, agree_first_end, agree_second_end}
+use Rattle.std.proofs.Common.{rules, tests, ℕ, not, ◌∙◌}
+use Rattle.std.proofs.lemmas.Iterator.{YieldsList-from_slice, YieldsList-from_zip}
+use Rattle.std.proofs.lemmas.Iterator.Search.{all_from_yields_List}
+use Rattle.lists.specs.Sides.{clash}
+use Rattle.lists.proofs.Scanning.{agree-zip}
 use Rattle.lists.proofs.sides.all_agree.Goals as goal
 
-pub returns-then-is_clash : goal.returns-then-is_clash
-returns-then-is_clash c = sym (agree_stops _ _ _ c.loop-i-test.true c.if-i-those.true (sym c.if-is_clash.ensures)) ∙ c.loop-i.invariant
-
-pub loop-i-preserved : goal.loop-i-preserved
-loop-i-preserved c = agree_goes _ _ _ c.loop-i-test.true c.if-i-those.true (sym c.if-is_clash.ensures) ∙ c.loop-i.invariant
-
-pub returns-else-i-those : goal.returns-else-i-those
-returns-else-i-those c = sym (agree_second_end _ _ _ c.if-i-those.false) ∙ c.loop-i.invariant
-
-pub returns-after-loop-i : goal.returns-after-loop-i
-returns-after-loop-i c = sym (agree_first_end _ c.args.those.now _ c.loop-i-test.false) ∙ c.loop-i.invariant
+pub returns : goal.returns
+returns c =
+    all_from_yields_List (λ (p : ℕ × ℕ). not (clash p.0 p.1)) c.all.new.self _ _ c.all.ensures.ran
+    (YieldsList-from_zip (YieldsList-from_slice c.args.these.now cc) (YieldsList-from_slice c.args.those.now cc))
+    (λ x b q k. search (rules, tests))
+    ∙ agree-zip _ _

@@ -11,11 +11,11 @@ loop-rest-init c = ap (λ l. resumed l (words_of c.args.fields.now)) c.new-words
 
 pub loop-rest-preserved : goal.loop-rest-preserved
 loop-rest-preserved c =
-    let next = next_word (vec_items c.loop-rest.words) _ _ c.loop-rest-test.true (sym c.in-Some.ensures) in
+    let next = next_word (vec_items c.loop-rest.words) _ _ c.in-len2-up.len_at_least (sym c.in-Some.ensures) in
     simp take_rest (ap (λ l. resumed l (words_of (drop 2 c.loop-rest.rest.now))) c.in_ok-push.ensures.items ∙ sym next ∙ c.loop-rest.invariant)
 
-pub returns-in_default : goal.returns-in_default
-returns-in_default c = sym (bad_word (vec_items c.loop-rest.words) _ c.loop-rest-test.true (sym c.in_default.ensures)) ∙ c.loop-rest.invariant
+pub returns-in_default-word_from : goal.returns-in_default-word_from
+returns-in_default-word_from c = sym (bad_word (vec_items c.loop-rest.words) _ c.in-len2-up.len_at_least (sym c.in_default-word_from.ensures)) ∙ c.loop-rest.invariant
 
 pub returns-then-is_empty : goal.returns-then-is_empty
 returns-then-is_empty c = sym (words_end _ _ (eqb-true _ 0 (sym c.if-is_empty.ensures))) ∙ c.loop-rest.invariant

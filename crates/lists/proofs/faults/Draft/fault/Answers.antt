@@ -1,7 +1,7 @@
 use Rattle.std.proofs.Common.{◌∙◌}
 use Rattle.std.specs.Option.{option_or}
 use Rattle.lists.specs.Acceptance.{fault_in}
-use Rattle.lists.proofs.faults.fault_in.Goals as goal
+use Rattle.lists.proofs.faults.Draft.fault.Goals as goal
 
 pub returns : goal.returns
 unfolding fault_in
