@@ -7,6 +7,7 @@ use Rattle.terms.specs.Fronts.{later, ending}
 use Rattle.terms.proofs.Shapes.{word_of, node_for, node_for_lem, written_is}
 use Rattle.terms.proofs.Endings.{trees_end}
 use Rattle.terms.proofs.Fillings.{ends_within}
+use Rattle.languages.proofs.Asked.{apart}
 use Rattle.steppers.specs.Looks.{BeginsWith}
 use Rattle.steppers.specs.Places.{marks_length}
 use Rattle.steppers.specs.Placed.{dropped_by}
@@ -59,8 +60,8 @@ pub record Inner (ws : List ℕ) (d : ℕ) (t : Tree) : Type 0 where
 -- the same, by the kind of the term
 inner_by : (w : ℕ) (ws : List ℕ) (d : ℕ) (t : Tree) → BeginsWith (w ∷ ws) t → dropped_by (Some (node_for t)) ≡ Some d → Inner ws d t
 unfolding written written_all WellMade marks_length ending
-inner_by w ws d (atom v) b e = let z : ◌≡◌ {A = ℕ} 0 1 = cc in absurd (omega arith)
-inner_by w ws d (variable n) b e = let z : ◌≡◌ {A = ℕ} 0 1 = cc in absurd (omega arith)
+inner_by w ws d (atom v) b e = apart (cc)
+inner_by w ws d (variable n) b e = apart (cc)
 inner_by w ws d (body k t) b e =
     let behind : ws ≡ written t ++ b.1.0 = let is = b.1.1 in cc in
     let zero : 0 ≡ d = cc in
@@ -82,7 +83,7 @@ inner_by w ws d (head k r ds t) b e =
       begins = (b.0.2, (b.1.0, ap (drop (length (written_all ds))) split ∙ drop_at (written_all ds) (written t ++ b.1.0) (length (written_all ds)) refl));
       marks = refl;
     }
-inner_by w ws d (form l ts) b e = let z : ◌≡◌ {A = ℕ} 0 1 = cc in absurd (omega arith)
+inner_by w ws d (form l ts) b e = apart (cc)
 
 -- at a word that is a mark
 pub inner : (w : ℕ) (ws : List ℕ) (d : ℕ) (t : Tree) → BeginsWith (w ∷ ws) t → dropped_by (node_of w) ≡ Some d → Inner ws d t
@@ -93,8 +94,8 @@ no_mark_by : (t : Tree) → dropped_by (Some (node_for t)) ≡ None → marks_le
 unfolding marks_length
 no_mark_by (atom v) e = refl
 no_mark_by (variable n) e = refl
-no_mark_by (body k t) e = let z : ◌≡◌ {A = ℕ} 0 1 = cc in absurd (omega arith)
-no_mark_by (head k r ds t) e = let z : ◌≡◌ {A = ℕ} 0 1 = cc in absurd (omega arith)
+no_mark_by (body k t) e = apart (cc)
+no_mark_by (head k r ds t) e = apart (cc)
 no_mark_by (form l ts) e = refl
 
 -- at a word that is no mark

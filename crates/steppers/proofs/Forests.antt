@@ -7,6 +7,7 @@ use Rattle.terms.specs.Words.{node_of}
 use Rattle.terms.specs.Trees.{Tree, Trees, atom, variable, body, head, form, none, more, count, written, written_all, WellMade, WellMadeAll, WellFormed, join}
 use Rattle.terms.specs.Fronts.{ending}
 use Rattle.terms.proofs.Shapes.{node_for, written-join, made_join}
+use Rattle.languages.proofs.Asked.{apart}
 use Rattle.steppers.specs.Loads.{behind, or_else, lacking, lacking_all}
 use Rattle.steppers.specs.Written.{passed_by, LacksAt}
 use Rattle.steppers.specs.Walks.{Reaches, begins, goes_on, over, broken, StopsAt}
@@ -88,11 +89,11 @@ lacking_lacked has l ts e = same (has l (count ts)) e
 -- the word of a form is passed only if the stepper has the form
 cond_some : (b : Bool) (d : ℕ) → cond b (Some 0) None ≡ Some d → (b ≡ true) × (0 ≡ d)
 cond_some true d e = (refl, cc)
-cond_some false d e = let z : ◌≡◌ {A = ℕ} 0 1 = cc in absurd (omega arith)
+cond_some false d e = apart (cc)
 
 -- and it is not passed only if the stepper lacks it
 cond_none : (b : Bool) → cond {A = Option ℕ} b (Some 0) None ≡ None → b ≡ false
-cond_none true e = let z : ◌≡◌ {A = ℕ} 0 1 = cc in absurd (omega arith)
+cond_none true e = apart (cc)
 cond_none false e = refl
 
 -- the first word of a forest that is not empty
@@ -156,10 +157,10 @@ less has w ws d ts h is e =
 -- a node that is not passed is a form that the stepper lacks
 found_by : (has : ℕ → ℕ → Bool) (t : Tree) (us : Trees) → passed_by has (Some (node_for t)) ≡ None → lacking_all has (more t us) ≡ Some 0
 unfolding lacking
-found_by has (atom v) us e = let z : ◌≡◌ {A = ℕ} 0 1 = cc in absurd (omega arith)
-found_by has (variable n) us e = let z : ◌≡◌ {A = ℕ} 0 1 = cc in absurd (omega arith)
-found_by has (body x t) us e = let z : ◌≡◌ {A = ℕ} 0 1 = cc in absurd (omega arith)
-found_by has (head x r ds t) us e = let z : ◌≡◌ {A = ℕ} 0 1 = cc in absurd (omega arith)
+found_by has (atom v) us e = apart (cc)
+found_by has (variable n) us e = apart (cc)
+found_by has (body x t) us e = apart (cc)
+found_by has (head x r ds t) us e = apart (cc)
 found_by has (form l ts) us e =
     ap (λ o. or_else o (behind (length (written (form l ts))) (lacking_all has us))) (lacking_lacked has l ts (cond_none (has l (count ts)) e))
 
@@ -211,8 +212,7 @@ module _ (has : ℕ → ℕ → Bool) (words : List ℕ) (n : ℕ) (p : Searched
       searched_broken : (r : Broken) → ending false d (drop (n + 1) words) ≡ Err r → (t : Tree) → WellFormed t → words ≡ written t → None ≡ lacking has t
       searched_broken r g t h e =
           let ends = (next t h e).ends in
-          let z : ◌≡◌ {A = ℕ} 0 1 = cc in
-          absurd (omega arith)
+          apart (cc)
 
       -- behind a word that is passed, the search goes on
       searched_more : (size : ℕ) → ending false d (drop (n + 1) words) ≡ Ok size → Searched has words (n + (1 + size))

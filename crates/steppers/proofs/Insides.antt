@@ -7,6 +7,7 @@ use Rattle.terms.specs.Words.{node_of, word, head_payload}
 use Rattle.terms.specs.Trees.{Tree, atom, variable, body, head, form, count, written, written_all, WellMade}
 use Rattle.terms.specs.Fronts.{ending}
 use Rattle.terms.proofs.Shapes.{node_for}
+use Rattle.languages.proofs.Asked.{apart}
 use Rattle.steppers.specs.Looks.{BeginsWith, seen}
 use Rattle.steppers.specs.Places.{marks_length}
 use Rattle.steppers.specs.Placed.{dropped_by, seen_by, InsideOf}
@@ -44,8 +45,7 @@ module _ (words : List ℕ) (n : ℕ) (p : Passed words n) where
     passed_broken d r e s t b =
         let i = inner (get_or words n 0) (drop (n + 1) words) d (p t b).0 (here t b) e in
         let ends = i.ends in
-        let z : ◌≡◌ {A = ℕ} 0 1 = cc in
-        omega arith
+        apart (cc)
 
     -- a mark, with its dropped terms
     passed_mark : (d size : ℕ) → dropped_by (node_of (get_or words n 0)) ≡ Some d → ending false d (drop (n + 1) words) ≡ Ok size → Passed words (n + (1 + size))

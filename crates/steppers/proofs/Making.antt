@@ -20,7 +20,7 @@ use Rattle.steppers.proofs.Splicing.{Spliced}
 -- a child that is there
 child_there : (i : ℕ) (ts : Trees) → i < count ts → nth i ts ≡ Some (pick i ts)
 unfolding nth pick count
-child_there i none less = absurd (let z : ⊥ = omega arith in z)
+child_there i none less = absurd (omega arith)
 child_there zero (more t ts) less = refl
 child_there (suc i) (more t ts) less = child_there i ts (omega arith)
 

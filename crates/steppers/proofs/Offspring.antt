@@ -7,6 +7,7 @@ use Rattle.terms.specs.Trees.{Tree, Trees, form, none, more, count, written, wri
 use Rattle.terms.specs.Fronts.{later, ending}
 use Rattle.terms.proofs.Endings.{tree_ends}
 use Rattle.terms.proofs.Fillings.{ends_within}
+use Rattle.languages.proofs.Asked.{apart}
 use Rattle.steppers.specs.declared.action.Seen.{Seen}
 use Rattle.steppers.specs.Looks.{BeginsWith, seen, seen_all, seen_at}
 use Rattle.steppers.specs.Places.{length_before}
@@ -81,8 +82,7 @@ module _ (words : List ℕ) (w : ℕ) (ws : List ℕ) (is : words ≡ w ∷ ws) 
   pub start_of_other : form_count (node_of w) ≡ None → StartOf words i None
   start_of_other e l ts b =
       let n = counted l ts b in
-      let z : ◌≡◌ {A = ℕ} 0 1 = cc in
-      absurd (omega arith)
+      apart (cc)
 
   module _ (n : ℕ) (e : form_count (node_of w) ≡ Some n) where
     -- the form has no child i
@@ -99,8 +99,7 @@ module _ (words : List ℕ) (w : ℕ) (ws : List ℕ) (is : words ≡ w ∷ ws) 
           let k = counted l ts b in
           let same : n ≡ count ts = cc in
           let g = ended l ts b (omega arith) in
-          let z : ◌≡◌ {A = ℕ} 0 1 = cc in
-          absurd (omega arith)
+          apart (cc)
 
       -- child i begins behind the first i children
       pub start_there : (size : ℕ) → ending false i ws ≡ Ok size → StartOf words i (Some (1 + size))

@@ -4,6 +4,7 @@ use Rattle.std.proofs.lemmas.List.{drop-drop, drop_more, drop_all}
 use Rattle.terms.specs.Words.{node_of}
 use Rattle.terms.specs.Trees.{Tree, Trees, atom, variable, body, head, form, none, more, count, written, written_all, nth, WellFormed}
 use Rattle.terms.proofs.Shapes.{node_for}
+use Rattle.languages.proofs.Asked.{apart}
 use Rattle.steppers.specs.declared.action.Action.{Action}
 use Rattle.steppers.specs.declared.action.Action.TheVariants as action
 use Rattle.steppers.specs.declared.spot.Spot.{Spot}
@@ -29,22 +30,22 @@ stuck_by table (head k r ds t) image e = refl
 stuck_by table (form l ts) image e = by_has (table.has l (count ts)) e
   where
     by_has : (b : Bool) → cond b (Some l) None ≡ None → action.Stuck ≡ cond b (table.acts l (seen_all ts) image) action.Stuck
-    by_has true f = let z : ◌≡◌ {A = ℕ} 0 1 = cc in absurd (omega arith)
+    by_has true f = apart (cc)
     by_has false f = refl
 
 -- a form of the stepper acts by the table
 acts_by : (table : Table) (words : List ℕ) (t : Tree) (image l : ℕ) (r : Action) → BeginsWith words t → own_label table.has (Some (node_for t)) ≡ Some l → ActsAt table.acts l words image r → r ≡ node_action table t image
-acts_by table words (atom v) image l r b e a = let z : ◌≡◌ {A = ℕ} 0 1 = cc in absurd (omega arith)
-acts_by table words (variable n) image l r b e a = let z : ◌≡◌ {A = ℕ} 0 1 = cc in absurd (omega arith)
-acts_by table words (body k t) image l r b e a = let z : ◌≡◌ {A = ℕ} 0 1 = cc in absurd (omega arith)
-acts_by table words (head k q ds t) image l r b e a = let z : ◌≡◌ {A = ℕ} 0 1 = cc in absurd (omega arith)
+acts_by table words (atom v) image l r b e a = apart (cc)
+acts_by table words (variable n) image l r b e a = apart (cc)
+acts_by table words (body k t) image l r b e a = apart (cc)
+acts_by table words (head k q ds t) image l r b e a = apart (cc)
 acts_by table words (form m ts) image l r b e a = by_has (table.has m (count ts)) e
   where
     by_has : (h : Bool) → cond h (Some m) None ≡ Some l → r ≡ cond h (table.acts m (seen_all ts) image) action.Stuck
     by_has true f =
         let same : m ≡ l = cc in
         a ts (subst (λ x. BeginsWith words (form x ts)) same b) ∙ ap (λ x. table.acts x (seen_all ts) image) (sym same)
-    by_has false f = let z : ◌≡◌ {A = ℕ} 0 1 = cc in absurd (omega arith)
+    by_has false f = apart (cc)
 
 module _ (table : Table) (words : List ℕ) (image : ℕ) (h : 0 < length words) where
   at_first : (t : Tree) → BeginsWith words t → node_of (get_or words 0 0) ≡ Some (node_for t)
@@ -129,10 +130,10 @@ record Stepped (table : Table) (t : Tree) (image i : ℕ) : Type 0 where
 
 -- no other node steps a child
 stepped : (table : Table) (t : Tree) (image i : ℕ) → action.Child i ≡ node_action table t image → Stepped table t image i
-stepped table (atom v) image i e = let z : ◌≡◌ {A = ℕ} 0 1 = cc in absurd (omega arith)
-stepped table (variable n) image i e = let z : ◌≡◌ {A = ℕ} 0 1 = cc in absurd (omega arith)
-stepped table (body k t) image i e = let z : ◌≡◌ {A = ℕ} 0 1 = cc in absurd (omega arith)
-stepped table (head k r ds t) image i e = let z : ◌≡◌ {A = ℕ} 0 1 = cc in absurd (omega arith)
+stepped table (atom v) image i e = apart (cc)
+stepped table (variable n) image i e = apart (cc)
+stepped table (body k t) image i e = apart (cc)
+stepped table (head k r ds t) image i e = apart (cc)
 stepped table (form l ts) image i e = record { label = l; children = ts; is = refl; acts = sym e }
 
 -- the way through a term has come to the words from `outer` on

@@ -115,7 +115,7 @@ module _ (has : ℕ → ℕ → Bool) where
   -- a child that is there is well formed, and of the stepper's forms if all are
   pick_kept : (i : ℕ) (ts : Trees) → WellMadeAll ts false → i < count ts → WellFormed (pick i ts) × (HadAll ts → Had (pick i ts))
   unfolding pick nth count WellMadeAll
-  pick_kept i none h less = absurd (let z : ⊥ = omega arith in z)
+  pick_kept i none h less = absurd (omega arith)
   pick_kept zero (more t ts) h less = (h.0, λ e. (more_had t ts e).0)
   pick_kept (suc i) (more t ts) h less =
       let rest = pick_kept i ts h.1 (omega arith) in

@@ -21,9 +21,6 @@ module _ (words : List ℕ) (n : ℕ) where
   within_rest : (r : ℕ) → n ≤ length words → r ≤ length (drop n words) → n + r ≤ length words
   within_rest r h l = let left = length-drop n words in omega arith
 
-pub loop-i-init : goal.loop-i-init
-loop-i-init g c = (omega arith, spotted_none g.S.Stepper.table c.args.words.now c.args.inputs)
-
 pub returns-in_default : goal.returns-in_default
 returns-in_default g c =
     let table = g.S.Stepper.table in
