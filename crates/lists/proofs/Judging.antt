@@ -1,5 +1,7 @@
 -- The lines behind a text's first, judged one by one.
-use Rattle.std.proofs.Common.{◌≡◌, ℕ, zero, suc, ◌<◌, false, ◌&&◌, eqb, ◌⊎◌, List, [], ◌∷◌, ◌++◌, length, Some, None, Ok, Err, Option, Result, refl, arith}
+use Rattle.std.proofs.Common.{◌≡◌, ℕ, zero, suc, ◌-◌, ◌<◌, false, ◌&&◌, eqb, ◌⊎◌, List, [], ◌∷◌, ◌++◌, length, Some, None, Ok, Err, Option, Result, get_or, sym, refl, ap, ◌∙◌, arith}
+use Rattle.std.specs.List.{slice_get}
+use Rattle.std.proofs.lemmas.Option.{slice_get_within, get_or_from_slice_get}
 use Rattle.std.proofs.lemmas.Bool.{and_from, eq-eqb}
 use Rattle.lists.specs.declared.parts.Form.{Form}
 use Rattle.lists.specs.declared.refusal.Place.{Place}
@@ -36,12 +38,24 @@ module _ {X : Type 0} (at : ℕ → Place) (reads : List X → Reading → Optio
   unfolding judge_lines
   line_read n m all r rs x s e has = rw (s, e) (rw (has, judge_lines))
 
-pub last_from_lem : (before : ℕ) (fs : List Form) (f : Form) → last_from before (fs ++ f ∷ []) ≡ f.label
+last_from_lem : (before : ℕ) (fs : List Form) (f : Form) → last_from before (fs ++ f ∷ []) ≡ f.label
 last_from_lem before [] f = refl
 last_from_lem before (g ∷ fs) f = last_from_lem g.label fs f
 
 pub last_label_lem : (fs : List Form) (f : Form) → last_label (fs ++ f ∷ []) ≡ f.label
 last_label_lem fs f = last_from_lem 0 fs f
+
+last_from_at : (before : ℕ) (fs : List Form) (n : ℕ) (d : Form) → length fs ≡ suc n → last_from before fs ≡ (get_or fs n d).label
+last_from_at before [] n d l = absurd (omega arith)
+last_from_at before (f ∷ []) zero d l = refl
+last_from_at before (f ∷ []) (suc n) d l = absurd (omega arith)
+last_from_at before (f ∷ g ∷ fs) zero d l = absurd (omega arith)
+last_from_at before (f ∷ g ∷ fs) (suc n) d l = last_from_at f.label (g ∷ fs) n d (omega arith)
+
+pub last_label_at : (fs : List Form) (f : Form) → Some f ≡ slice_get fs (length fs - 1) → f.label ≡ last_label fs
+last_label_at fs f e =
+    let within = slice_get_within fs (length fs - 1) f (sym e) in
+    sym (last_from_at 0 fs (length fs - 1) f (omega (arith, within)) ∙ ap (λ (x : Form). x.label) (get_or_from_slice_get fs (length fs - 1) f f (sym e)))
 
 pub no_header : (rs : List Reading) → rs ≡ [] → judge_header rs ≡ Err (LineMissing place.Head)
 unfolding judge_header

@@ -3,9 +3,12 @@ ghost use Rattle.std.specs.Prelude.{◌≡◌, ◌≤◌, [], IfOk, vec_items};
 ghost use Rattle.std.specs.Option.{option_map};
 ghost use Rattle.texts.specs.Texts.{readings};
 ghost use Rattle.texts.specs.Pieces.{fields_of, line_says};
-ghost use Rattle.lists.specs.Lines.{Answers, numbers_of, head_of, head_of_line, form_of, form_of_line, judge_forms, judge_header, declared_by};
+ghost use Rattle.lists.specs.declared.parts.Form.{Form};
+ghost use Rattle.lists.specs.declared.refusal.Place.TheVariants as place;
+ghost use Rattle.lists.specs.Lines.{Answers, numbers_of, head_of, head_of_line, form_of, form_of_line, last_label, judge_header, declared_by};
 
 use crate::layer::Layer;
+use crate::lines::{Entry, read_lines};
 use crate::parts::{Form, Head, Header, MOST_RULES};
 use crate::refusal::{Place, Refusal};
 use std::alloc::{AllocError, Global};
@@ -79,48 +82,42 @@ fn form_from(k: Layer, before: u32, numbers: &[u32]) -> Option<Form>
 fn read_head(heap: Global, line: Piece<'_>) -> Result<Option<Head>, AllocError>
     ensures { IfOk result (λ h. h ≡ head_of_line (line_says line.entry)) }
 {
-    match line_numbers(heap, line, Word::Head)? {
-        Some(numbers) => Ok(head_from(&numbers)),
-        None => Ok(None),
+    Ok(line_numbers(heap, line, Word::Head)?.and_then(|numbers| head_from(&numbers)))
+}
+
+// The label of the last form; 0 if there is none.
+fn last_label(forms: &[Form]) -> u32
+    ensures { result ≡ last_label forms.now }
+{
+    match forms.last() {
+        Some(form) => form.label,
+        None => 0,
     }
 }
 
-// The line of a form, behind a form of the label `before`.
-fn read_form(
-    heap: Global,
-    k: Layer,
-    before: u32,
-    line: Piece<'_>,
-) -> Result<Option<Form>, AllocError>
-    ensures { IfOk result (λ f. f ≡ form_of_line k before (line_says line.entry)) }
-{
-    match line_numbers(heap, line, Word::Form)? {
-        Some(numbers) => Ok(form_from(k, before, &numbers)),
-        None => Ok(None),
-    }
-}
+impl Entry for Form {
+    ghost Meant = { Form };
 
-// The header's lines behind its first: one for each form, and no more.
-fn read_forms(heap: Global, layer: Layer, count: u32, text: &[u8]) -> Result<Vec<Form>, Refusal>
-    ensures { Answers vec_items (judge_forms layer [] count (readings text.now)) result }
-{
-    let mut forms = Vec::new(heap);
-    let mut rest = text;
-    let mut before = 0;
-    for i in 0..count {
-        let Some(line) = next_line(rest) else {
-            return Err(Refusal::LineMissing(Place::Form(i)));
-        };
-        let Some(form) = read_form(heap, layer, before, line)? else {
-            return Err(Refusal::LineBroken(Place::Form(i)));
-        };
-        forms.push(form)?;
-        before = form.label;
-        rest = line.rest();
+    ghost meant = { λ f. f };
+
+    ghost line_at = { λ i. place.Form i };
+
+    ghost reads = { λ k read r. form_of_line k (last_label read) r };
+
+    fn line_at(i: u32) -> Place {
+        Place::Form(i)
     }
-    match next_line(rest) {
-        Some(_) => Err(Refusal::LineExtra(Place::Form(count))),
-        None => Ok(forms),
+
+    fn read(
+        heap: Global,
+        layer: Layer,
+        earlier: &[Form],
+        line: Piece<'_>,
+    ) -> Result<Option<Form>, AllocError> {
+        let before = last_label(earlier);
+        Ok(line_numbers(heap, line, Word::Form)?.and_then(|numbers| form_from(
+            layer, before, &numbers,
+        )))
     }
 }
 
@@ -134,6 +131,6 @@ pub(crate) fn read_header(heap: Global, text: &[u8]) -> Result<Header, Refusal>
     let Some(head) = read_head(heap, line)? else {
         return Err(Refusal::LineBroken(Place::Head));
     };
-    let forms = read_forms(heap, head.layer, head.forms, line.rest())?;
+    let forms = read_lines(heap, head.layer, head.forms, line.rest())?;
     Ok(Header { head, forms })
 }

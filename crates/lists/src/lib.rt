@@ -6,6 +6,7 @@ mod accept;
 mod faults;
 mod header;
 mod layer;
+mod lines;
 pub mod list;
 pub mod parts;
 pub mod refusal;

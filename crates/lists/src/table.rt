@@ -1,12 +1,14 @@
 // Reads a table.
-ghost use Rattle.std.specs.Prelude.{◌≡◌, [], IfOk, vec_items};
+ghost use Rattle.std.specs.Prelude.{◌≡◌, length, IfOk, vec_items};
 ghost use Rattle.std.specs.Option.{option_map};
 ghost use Rattle.texts.specs.Texts.{readings};
 ghost use Rattle.texts.specs.Pieces.{line_says};
-ghost use Rattle.lists.specs.Lines.{Answers, table_of, table_of_line, word_at, words_of, FieldsOf, rule_of, rule_of_line, sides_of, all_sides, judge_rules, judge_table};
+ghost use Rattle.lists.specs.declared.refusal.Place.TheVariants as place;
+ghost use Rattle.lists.specs.Lines.{Sides, Answers, table_of, table_of_line, word_at, words_of, FieldsOf, rule_of, rule_of_line, sides_of, all_sides, judge_table};
 
 use crate::header::line_numbers;
 use crate::layer::Layer;
+use crate::lines::{Entry, read_lines};
 use crate::parts::{Head, MOST_RULES, Rule};
 use crate::refusal::{Place, Refusal};
 use std::alloc::{AllocError, Global};
@@ -37,10 +39,7 @@ fn table_from(numbers: &[u32]) -> Option<(Layer, u32)>
 fn read_table_line(heap: Global, line: Piece<'_>) -> Result<Option<(Layer, u32)>, AllocError>
     ensures { IfOk result (λ t. t ≡ table_of_line (line_says line.entry)) }
 {
-    match line_numbers(heap, line, Word::Table)? {
-        Some(numbers) => Ok(table_from(&numbers)),
-        None => Ok(None),
-    }
+    Ok(line_numbers(heap, line, Word::Table)?.and_then(|numbers| table_from(&numbers)))
 }
 
 fn word_from(label: u32, payload: u32) -> Option<u32>
@@ -115,25 +114,26 @@ fn read_rule(heap: Global, k: u32, line: Piece<'_>) -> Result<Option<Rule>, Allo
     }
 }
 
-// The table's lines behind its first: one for each rule, and no more.
-fn read_rules(heap: Global, count: u32, text: &[u8]) -> Result<Vec<Rule>, Refusal>
-    ensures { Answers all_sides (judge_rules [] count (readings text.now)) result }
-{
-    let mut rules = Vec::new(heap);
-    let mut rest = text;
-    for k in 0..count {
-        let Some(line) = next_line(rest) else {
-            return Err(Refusal::LineMissing(Place::Rule(k)));
-        };
-        let Some(rule) = read_rule(heap, k, line)? else {
-            return Err(Refusal::LineBroken(Place::Rule(k)));
-        };
-        rules.push(rule)?;
-        rest = line.rest();
+impl Entry for Rule {
+    ghost Meant = { Sides };
+
+    ghost meant = { λ s. sides_of s };
+
+    ghost line_at = { λ i. place.Rule i };
+
+    ghost reads = { λ _ read r. rule_of_line (length read) r };
+
+    fn line_at(i: u32) -> Place {
+        Place::Rule(i)
     }
-    match next_line(rest) {
-        Some(_) => Err(Refusal::LineExtra(Place::Rule(count))),
-        None => Ok(rules),
+
+    fn read(
+        heap: Global,
+        _layer: Layer,
+        earlier: &[Rule],
+        line: Piece<'_>,
+    ) -> Result<Option<Rule>, AllocError> {
+        read_rule(heap, earlier.len() as u32, line)
     }
 }
 
@@ -151,5 +151,5 @@ pub(crate) fn read_table(heap: Global, head: &Head, text: &[u8]) -> Result<Vec<R
     if layer != head.layer || rules != head.rules {
         return Err(Refusal::TableDiffers);
     }
-    read_rules(heap, head.rules, line.rest())
+    read_lines(heap, head.layer, head.rules, line.rest())
 }

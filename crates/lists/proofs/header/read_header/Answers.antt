@@ -1,4 +1,5 @@
-use Rattle.std.proofs.Common.{[], sym, ap, ◌∙◌, inl, inr, ⊎_elim}
+use Rattle.std.proofs.Common.{[], vec_items, Ok, sym, ap, ◌∙◌, inl, inr, ⊎_elim}
+use Rattle.std.proofs.lemmas.List.{map-id}
 use Rattle.std.proofs.lemmas.Result.{err_from_is_err_and}
 use Rattle.texts.specs.Texts.{readings}
 use Rattle.lists.specs.Lines.{judge_forms, with_forms, declared_by}
@@ -20,4 +21,4 @@ returns-in_err-forms c =
 pub returns : goal.returns
 returns c =
     let head = header_is _ _ _ c.in-Some.ensures.0 c.in-Some-2.head (sym c.in_ok-head.ensures ∙ c.in-Some-2.is) ∙ ap (λ t. with_forms c.in-Some-2.head (judge_forms c.in-Some-2.head.layer [] c.in-Some-2.head.forms (readings t))) (sym c.rest.ensures) in
-    head ∙ ap (with_forms c.in-Some-2.head) c.in_ok-forms.ensures
+    head ∙ ap (with_forms c.in-Some-2.head) (c.in_ok-forms.ensures ∙ ap (λ l. Ok l) (map-id (vec_items c.in_ok-forms.forms)))

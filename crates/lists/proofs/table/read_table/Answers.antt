@@ -25,4 +25,4 @@ returns c =
     let has = sym c.in_ok-declared.ensures ∙ c.in-Some-2.is in
     let same = eqb-true _ _ (not-false _ (sym c.ne.ensures ∙ c.if-ne.false)) in
     let is = table_is _ _ _ _ c.in-Some.ensures.0 _ _ has same c.if-rules-head.false ∙ ap (λ t. judge_rules [] c.args.head.now.rules (readings t)) (sym c.rest.ensures) in
-    subst (λ s. Answers all_sides s c.read_rules.result) (sym is) c.read_rules.ensures
+    subst (λ s. Answers all_sides s c.read_lines.result) (sym is) c.read_lines.ensures
