@@ -4,7 +4,7 @@ ghost use Rattle.terms.specs.Words.{is_layer};
 ghost use Rattle.lists.specs.Layers.{owned};
 
 use std::marker::Model;
-use terms::words::{FIRST_LAYER, LAST_LAYER};
+use terms::words::{FIRST_LAYER, is_layer};
 
 // Layer k owns LABELS labels, from LABELS + LABELS × k on.
 const LABELS: u32 = 32;
@@ -35,10 +35,10 @@ impl TryFrom<u32> for Layer {
     ghost try_from_gives = { λ n r. MatchResult r (λ k. (k ≡ n) × (is_layer n ≡ true)) (λ _. is_layer n ≡ false) };
 
     fn try_from(number: u32) -> Result<Layer, NoLayer> {
-        if number < FIRST_LAYER || number > LAST_LAYER {
-            Err(NoLayer)
-        } else {
+        if is_layer(number) {
             Ok(Layer { number })
+        } else {
+            Err(NoLayer)
         }
     }
 }

@@ -12,8 +12,8 @@ use crate::lines::{Entry, read_lines};
 use crate::parts::{Head, MOST_RULES, Rule};
 use crate::refusal::{Place, Refusal};
 use std::alloc::{AllocError, Global};
-use terms::words::{LABEL_UNIT, LAST_LABEL};
-use texts::text::{Piece, Word, next_line};
+use terms::word::Word;
+use texts::text::{Piece, Word as LineWord, next_line};
 
 const MOST_LEFT: u32 = 9;
 
@@ -39,16 +39,13 @@ fn table_from(numbers: &[u32]) -> Option<(Layer, u32)>
 fn read_table_line(heap: Global, line: Piece<'_>) -> Result<Option<(Layer, u32)>, AllocError>
     ensures { IfOk result (λ t. t ≡ table_of_line (line_says line.entry)) }
 {
-    Ok(line_numbers(heap, line, Word::Table)?.and_then(|numbers| table_from(&numbers)))
+    Ok(line_numbers(heap, line, LineWord::Table)?.and_then(|numbers| table_from(&numbers)))
 }
 
 fn word_from(label: u32, payload: u32) -> Option<u32>
     ensures { result ≡ word_at label payload }
 {
-    if label > LAST_LABEL || payload >= LABEL_UNIT {
-        return None;
-    }
-    Some(label * LABEL_UNIT + payload)
+    Word::new(label, payload).map(u32::from)
 }
 
 // The words of fields in pairs, a label and a payload each; none if one is out of range or a field is left over.
@@ -108,7 +105,7 @@ fn rule_from(heap: Global, k: u32, numbers: &[u32]) -> Result<Option<Rule>, Allo
 fn read_rule(heap: Global, k: u32, line: Piece<'_>) -> Result<Option<Rule>, AllocError>
     ensures { IfOk result (λ s. option_map sides_of s ≡ rule_of_line k (line_says line.entry)) }
 {
-    match line_numbers(heap, line, Word::Rule)? {
+    match line_numbers(heap, line, LineWord::Rule)? {
         Some(numbers) => rule_from(heap, k, &numbers),
         None => Ok(None),
     }

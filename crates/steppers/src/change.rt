@@ -9,17 +9,11 @@ use crate::room::Room;
 use crate::spot::Spot;
 use std::mem::swap;
 use terms::front::argument;
-use terms::words::{ATOM, LABEL_UNIT};
+use terms::word::Word;
+use terms::words::ATOM;
 
 // Both forms that a round of a repetition makes have two children.
 const PAIR: u32 = 2;
-
-fn word_of(label: u32, payload: u32) -> u32
-    requires { (label < 256) × (payload < 16777216) }
-    ensures { result ≡ word label payload }
-{
-    label * LABEL_UNIT + payload
-}
 
 // The words of child i of the form that the words begin with; none if it is not there.
 fn child(node: &[u32], i: usize) -> &[u32]
@@ -51,10 +45,19 @@ fn write_round(out: &mut Room, first: u32, again: u32, count: u32, body: &[u32])
     requires room { length out.old + (3 + 2 * length body.now) ≤ 1024 }
     ensures { out.new ≡ out.old ++ round_words first again count body.now }
 {
-    out.push(word_of(first, PAIR));
+    out.push(u32::from(Word {
+        label: first,
+        payload: PAIR,
+    }));
     out.append(body);
-    out.push(word_of(again, PAIR));
-    out.push(word_of(ATOM, count));
+    out.push(u32::from(Word {
+        label: again,
+        payload: PAIR,
+    }));
+    out.push(u32::from(Word {
+        label: ATOM,
+        payload: count,
+    }));
     out.append(body);
 }
 
@@ -65,8 +68,11 @@ fn write_made(out: &mut Room, node: &[u32], by: Made)
     ensures { out.new ≡ out.old ++ made_words node.now by }
 {
     match by {
-        Made::Number(value) => out.push(word_of(ATOM, value)),
-        Made::Leaf(label) => out.push(word_of(label, 0)),
+        Made::Number(value) => out.push(u32::from(Word {
+            label: ATOM,
+            payload: value,
+        })),
+        Made::Leaf(label) => out.push(u32::from(Word { label, payload: 0 })),
         Made::Child(i) => out.append(child(node, i)),
         Made::Round {
             first,
