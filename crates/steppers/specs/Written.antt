@@ -1,6 +1,8 @@
 -- What the functions that read and write words answer.
 use Rattle.std.specs.Prelude.{◌≡◌, ℕ, ◌+◌, ◌<◌, Bool, false, cond, List, [], ◌∷◌, ◌++◌, take, drop, Some, None, Ok, Err, Option, Result}
 use Rattle.std.specs.Result.{result_map_both}
+use Rattle.std.specs.Coded.{Unit-prop, le_prop}
+use Rattle.std.proofs.Props.{props}
 use Rattle.terms.specs.declared.words.Node.{Node}
 use Rattle.terms.specs.declared.words.Node.TheVariants as node
 use Rattle.terms.specs.Trees.{Tree, written, WellFormed}
@@ -48,6 +50,13 @@ Wordable (made.Number v) = v < 16777216
 Wordable (made.Leaf l) = l < 256
 Wordable (made.Child i) = Unit {0}
 Wordable (made.Round first again count i) = (first < 256) × (again < 256) × (count < 16777216)
+
+-- it has one proof at most
+pub Wordable-prop : (by : Made) → IsProp (Wordable by)
+Wordable-prop (made.Number v) = le_prop
+Wordable-prop (made.Leaf l) = le_prop
+Wordable-prop (made.Child i) = Unit-prop
+Wordable-prop (made.Round first again count i) = Prim.hlevel props
 
 -- where the term at the front of the words ends
 abbrev pub size_of : List ℕ → ℕ

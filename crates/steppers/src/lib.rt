@@ -5,12 +5,12 @@
 mod accept;
 pub mod action;
 mod change;
-mod cut;
 mod find;
 pub mod laws;
 pub mod logic;
 pub mod look;
 pub mod machine;
+mod replacement;
 mod room;
 pub mod run;
 pub mod sequence;
