@@ -1,5 +1,5 @@
 -- What a machine answers, by the words that it holds.
-use Rattle.std.proofs.Common.{◌≡◌, ◌⊎◌, ℕ, ◌<◌, ◌≤◌, Bool, true, false, cond, eqb, leb, List, [], ◌++◌, length, drop, is_err, Some, None, Ok, Err, Option, Result, sym, refl, ap, ◌∙◌, subst, ⊎_elim, arith}
+use Rattle.std.proofs.Common.{◌≡◌, ◌⊎◌, ℕ, ◌<◌, ◌≤◌, Bool, true, false, cond, eqb, leb, List, [], ◌++◌, length, drop, Some, None, Ok, Err, Option, Result, sym, refl, ap, ◌∙◌, subst, ⊎_elim, arith}
 use Rattle.std.specs.Result.{result_map_both}
 use Rattle.std.proofs.lemmas.List.{append-nil, nil_from_length}
 use Rattle.std.proofs.lemmas.Bool.{eqb-true, eqb-false, leb-true, le-leb, lt-leb}
@@ -10,7 +10,7 @@ use Rattle.languages.specs.declared.refusal.Refusal.TheVariants.{NothingHeld, Sh
 use Rattle.languages.specs.declared.answers.Stepped.{Stepped}
 use Rattle.languages.specs.declared.answers.Stepped.TheVariants.{Moved, Ended, Stuck, Full}
 use Rattle.languages.specs.Meaning.{Expanded, Move, moved, ended, stuck}
-use Rattle.languages.specs.Calls.{Loads, Steps, StepGives, ShowGives, HeldShowGives, BufferShowGives}
+use Rattle.languages.specs.Calls.{Loads, Steps, StepGives, HeldShowGives, BufferShowGives}
 use Rattle.languages.proofs.Asked.{apart}
 use Rattle.steppers.specs.declared.action.Made.{Made}
 use Rattle.steppers.specs.declared.action.Action.{Action}
@@ -19,12 +19,12 @@ use Rattle.steppers.specs.declared.spot.Spot.{Spot}
 use Rattle.steppers.specs.Looks.{BeginsWith, seen}
 use Rattle.steppers.specs.Table.{Table, Sound}
 use Rattle.steppers.specs.Steps.{rule_of}
-use Rattle.steppers.specs.Loads.{holdable, expansion_of, meaning_of}
+use Rattle.steppers.specs.Loads.{lacking, holdable, expansion_of, meaning_of}
 use Rattle.steppers.specs.Places.{spot_of}
 use Rattle.steppers.specs.Placed.{OverAt, FoundIn}
 use Rattle.steppers.specs.Written.{Wordable, rewritten}
 use Rattle.steppers.specs.Closing.{next_kept}
-use Rattle.steppers.specs.Loading.{loadable, expands_to, Held, empty, term, held_words, term_holdable}
+use Rattle.steppers.specs.Loading.{loadable, loads_term, Held, empty, loads, held_words, loaded_holdable}
 use Rattle.steppers.proofs.Stepping.{Replaced, rule_ended, rule_waits, rule_sticks, no_child, rule_replaces}
 
 pub no_term : (ws : List ℕ) → ws ≡ [] → term_of ws ≡ None
@@ -39,26 +39,31 @@ held_term ws t formed e = ap term_of (sym e) ∙ term_read t false formed
 pub no_words : (ws other : List ℕ) → other ≡ ws → true ≡ eqb (length other) 0 → ws ≡ []
 no_words ws other same none = sym same ∙ nil_from_length other (eqb-true (length other) 0 (sym none))
 
--- they are some, so a term is held, and they begin with it
-pub record Holds (ws other : List ℕ) : Type 0 where
-  pub tree : Tree
-  pub formed : WellFormed tree
-  pub spelled : written tree ≡ ws
-  pub few : length ws ≤ 1024
-  pub begun : BeginsWith other tree
+module _ (table : Table) where
+  -- they are some, so a term is held that the stepper loads, and they begin with it
+  pub record Holds (ws other : List ℕ) : Type 0 where
+    pub tree : Tree
+    pub formed : WellFormed tree
+    pub spelled : written tree ≡ ws
+    pub few : length ws ≤ table.capacity
+    pub had : lacking table.has tree ≡ None
+    pub begun : BeginsWith other tree
 
-pub some_words : (ws other : List ℕ) → other ≡ ws → holdable ws ≡ true → false ≡ eqb (length other) 0 → Holds ws other
-some_words ws other same holds some = by_held (held_words ws holds)
-  where
-    by_held : Held ws → Holds ws other
-    by_held (empty h) = absurd (eqb-false (length other) 0 (sym some) (ap length (same ∙ h)))
-    by_held (term t formed h few) = record {
-      tree = t;
-      formed = formed;
-      spelled = h;
-      few = few;
-      begun = (formed, ([], same ∙ sym h ∙ sym (append-nil (written t))));
-    }
+  pub some_words : (ws other : List ℕ) → other ≡ ws → holdable table ws ≡ true → false ≡ eqb (length other) 0 → Holds ws other
+  some_words ws other same holds some = by_held (held_words table ws holds)
+    where
+      by_held : Held table ws → Holds ws other
+      by_held (empty h) = absurd (eqb-false (length other) 0 (sym some) (ap length (same ∙ h)))
+      by_held (loads e h) =
+          let l = loadable table ws e h in
+          record {
+            tree = e.term;
+            formed = l.formed;
+            spelled = l.spelled;
+            few = l.few;
+            had = l.had;
+            begun = (l.formed, ([], same ∙ sym l.spelled ∙ sym (append-nil (written e.term))));
+          }
 
 -- whether the words are admitted, by their expansion
 abbrev verdict : Result Expanded Refusal → Result (Unit {0}) Refusal
@@ -69,10 +74,10 @@ Same r q = r ≡ q
 
 module _ (table : Table) (sound : Sound table) where
   -- a load of words that the stepper admits, and of others
-  pub loads_held : (words : List ℕ) (was : Option Tree) (x : Unit {0}) → Same (Ok x) (verdict (expansion_of table words)) → Loads (meaning_of table) words was (Ok (record { words = length words; uses = 0 })) (term_of words) × (holdable words ≡ true) × (length words ≤ 1024)
+  pub loads_held : (words : List ℕ) (was : Option Tree) (x : Unit {0}) → Same (Ok x) (verdict (expansion_of table words)) → Loads (meaning_of table) words was (Ok (record { words = length words; uses = 0 })) (term_of words) × (holdable table words ≡ true) × (length words ≤ 1024)
   loads_held words was x h = by_expansion (expansion_of table words) refl h
     where
-      by_expansion : (r : Result Expanded Refusal) → expansion_of table words ≡ r → Same (Ok x) (verdict r) → Loads (meaning_of table) words was (Ok (record { words = length words; uses = 0 })) (term_of words) × (holdable words ≡ true) × (length words ≤ 1024)
+      by_expansion : (r : Result Expanded Refusal) → expansion_of table words ≡ r → Same (Ok x) (verdict r) → Loads (meaning_of table) words was (Ok (record { words = length words; uses = 0 })) (term_of words) × (holdable table words ≡ true) × (length words ≤ 1024)
       by_expansion (Err refusal) v e = apart (cc)
       by_expansion (Ok e) v h =
           let l = loadable table words e v in
@@ -82,7 +87,7 @@ module _ (table : Table) (sound : Sound table) where
           let none : e.uses ≡ 0 = ap (λ x. x.uses) uses in
           let answer : Ok (record { words = length words; uses = 0 }) ≡ Ok (record { words = length (written e.term); uses = e.uses }) = cc in
           let held = held_term words e.term l.formed l.spelled in
-          (rw (v, Loads) (answer, held), term_holdable e.term words l.formed l.spelled few, few)
+          (rw (v, Loads) (answer, held), loaded_holdable table words e v, few)
 
   pub loads_refused : (words : List ℕ) (was : Option Tree) (refusal : Refusal) → Same (Err refusal) (verdict (expansion_of table words)) → Loads (meaning_of table) words was (Err refusal) was
   loads_refused words was refusal h = by_expansion (expansion_of table words) refl h
@@ -97,19 +102,23 @@ module _ (table : Table) (sound : Sound table) where
     pub formed : WellFormed tree
     pub spelled : written tree ≡ ws
     pub few : length ws ≤ 1024
-    pub holds : holdable ws ≡ true
+    pub within : length ws ≤ table.capacity
+    pub had : lacking table.has tree ≡ None
+    pub holds : holdable table ws ≡ true
     pub goes : table.over (seen tree) ≡ false
     pub found : FoundIn table ws image spot
 
   -- the words that were looked at are those that are held
-  pub ready : (ws other : List ℕ) (image : ℕ) (spot : Spot) → other ≡ ws → holdable ws ≡ true → false ≡ eqb (length other) 0 → OverAt table other false → FoundIn table other image spot → Ready ws image spot
+  pub ready : (ws other : List ℕ) (image : ℕ) (spot : Spot) → other ≡ ws → holdable table ws ≡ true → false ≡ eqb (length other) 0 → OverAt table other false → FoundIn table other image spot → Ready ws image spot
   ready ws other image spot same holds some over found =
-      let h = some_words ws other same holds some in
+      let h = some_words table ws other same holds some in
       record {
         tree = h.tree;
         formed = h.formed;
         spelled = h.spelled;
-        few = h.few;
+        few = omega (arith, h.few, sound.holds_few);
+        within = h.few;
+        had = h.had;
         holds = holds;
         goes = sym (over h.tree h.begun);
         found = subst (λ xs. FoundIn table xs image spot) same found;
@@ -125,9 +134,9 @@ module _ (table : Table) (sound : Sound table) where
       subst (λ o. StepGives (meaning_of table) image o (Ok s) is) (sym held) (subst (λ m. Steps table.capacity t m s is) (sym rule) steps)
 
   -- a step of a term that has ended
-  pub steps_ended : (ws other : List ℕ) (image : ℕ) → other ≡ ws → holdable ws ≡ true → false ≡ eqb (length other) 0 → OverAt table other true → StepGives (meaning_of table) image (term_of ws) (Ok Ended) (term_of ws)
+  pub steps_ended : (ws other : List ℕ) (image : ℕ) → other ≡ ws → holdable table ws ≡ true → false ≡ eqb (length other) 0 → OverAt table other true → StepGives (meaning_of table) image (term_of ws) (Ok Ended) (term_of ws)
   steps_ended ws other image same holds some over =
-      let h = some_words ws other same holds some in
+      let h = some_words table ws other same holds some in
       let held = held_term ws h.tree h.formed h.spelled in
       steps_by ws image h.tree ended Ended (term_of ws) held (rule_ended table h.tree image (sym (over h.tree h.begun))) (refl, held)
 
@@ -152,13 +161,9 @@ module _ (table : Table) (sound : Sound table) where
     fills : (effect : ℕ) (next : Tree) → rule_of table t image ≡ moved effect next → leb (length (written next)) table.capacity ≡ false → StepGives (meaning_of table) image (term_of ws) (Ok Full) (term_of ws)
     fills effect next rule size = steps_by ws image t (moved effect next) Full (term_of ws) held rule (rw size (refl, held))
 
-    pub waits : spot.action ≡ action.Wait → length ws ≤ table.capacity → StepGives (meaning_of table) image (term_of ws) (Ok (Moved 0)) (term_of ws)
-    waits h few =
-        moves 0 t (term_of ws) (rule_waits table sound t image r.formed r.goes (acts action.Wait h)) (le-leb (length (written t)) table.capacity (subst (λ xs. length xs ≤ table.capacity) (sym r.spelled) few)) held
-
-    pub waits_full : spot.action ≡ action.Wait → table.capacity < length ws → StepGives (meaning_of table) image (term_of ws) (Ok Full) (term_of ws)
-    waits_full h many =
-        fills 0 t (rule_waits table sound t image r.formed r.goes (acts action.Wait h)) (lt-leb (length (written t)) table.capacity (subst (λ xs. table.capacity < length xs) (sym r.spelled) many))
+    pub waits : spot.action ≡ action.Wait → StepGives (meaning_of table) image (term_of ws) (Ok (Moved 0)) (term_of ws)
+    waits h =
+        moves 0 t (term_of ws) (rule_waits table sound t image r.formed r.goes (acts action.Wait h)) (le-leb (length (written t)) table.capacity (subst (λ xs. length xs ≤ table.capacity) (sym r.spelled) r.within)) held
 
     pub sticks : (((i : ℕ) × (spot.action ≡ action.Child i)) ⊎ (spot.action ≡ action.Stuck)) → StepGives (meaning_of table) image (term_of ws) (Ok Stuck) (term_of ws)
     sticks = ⊎_elim (λ p. absurd (no_child table sound t image r.formed r.goes p.0 (acts (action.Child p.0) p.1))) (λ h. steps_by ws image t stuck Stuck (term_of ws) held (rule_sticks table sound t image r.formed r.goes (acts action.Stuck h)) (refl, held))
@@ -168,7 +173,7 @@ module _ (table : Table) (sound : Sound table) where
       pub wordable : Wordable by
       pub fitting : (is : List ℕ) (most : ℕ) → most ≡ table.capacity → true ≡ leb (length next_words) most → is ≡ next_words → StepGives (meaning_of table) image (term_of ws) (Ok (Moved effect)) (term_of is)
       pub full : (is : List ℕ) (most : ℕ) → most ≡ table.capacity → false ≡ leb (length next_words) most → is ≡ ws → StepGives (meaning_of table) image (term_of ws) (Ok Full) (term_of is)
-      pub held_after : (fits : Bool) (is : List ℕ) (most : ℕ) → most ≡ table.capacity → fits ≡ leb (length next_words) most → is ≡ cond fits next_words ws → holdable is ≡ true
+      pub held_after : (fits : Bool) (is : List ℕ) (most : ℕ) → most ≡ table.capacity → fits ≡ leb (length next_words) most → is ≡ cond fits next_words ws → holdable table is ≡ true
 
     module _ (effect : ℕ) (by : Made) (h : spot.action ≡ action.Replace effect by) where
       abbrev p : Replaced table sound t image r.formed r.goes effect by
@@ -190,12 +195,13 @@ module _ (table : Table) (sound : Sound table) where
       size : (fits : Bool) (most : ℕ) → most ≡ table.capacity → fits ≡ leb (length next_words) most → leb (length (written next)) table.capacity ≡ fits
       size fits most capacity e = (λ j. leb (length (sym words j)) (sym capacity j)) ∙ sym e
 
-      holds_after : (fits : Bool) (is : List ℕ) (most : ℕ) → most ≡ table.capacity → fits ≡ leb (length next_words) most → is ≡ cond fits next_words ws → holdable is ≡ true
+      holds_after : (fits : Bool) (is : List ℕ) (most : ℕ) → most ≡ table.capacity → fits ≡ leb (length next_words) most → is ≡ cond fits next_words ws → holdable table is ≡ true
       holds_after true is most capacity e same =
           let few = leb-true (length (written next)) table.capacity (size true most capacity e) in
-          let n = next_is is same in
-          term_holdable next is n.0 n.1 (subst (λ xs. length xs ≤ 1024) n.1 (omega (arith, few, sound.holds_few)))
-      holds_after false is most capacity e same = ap holdable same ∙ r.holds
+          let kept = next_kept table sound t next image effect r.formed p.rule in
+          let loads = loads_term table next kept.0 few (kept.1 r.had) in
+          loaded_holdable table is _ (ap (expansion_of table) (same ∙ words) ∙ loads)
+      holds_after false is most capacity e same = ap (holdable table) same ∙ r.holds
 
       pub replaces : Replaces effect by next_words
       replaces = record {
@@ -216,36 +222,13 @@ module _ (table : Table) (sound : Sound table) where
       let none = no_term ws e in
       rw (enough, BufferShowGives) (subst (λ o. HeldShowGives (meaning_of table) o buffer (Err NothingHeld) buffer) (sym none) (refl, refl))
 
-  module _ (ws other buffer : List ℕ) (same : other ≡ ws) (held : Holds ws other) (long : 1024 ≤ length buffer) where
-    abbrev shown : Tree
-    shown = held.tree
-
-    with_held : (r : Option ℕ) (after : List ℕ) → ShowGives (meaning_of table) shown buffer r after → BufferShowGives (meaning_of table) (term_of ws) buffer (Ok r) after
-    with_held r after h =
-        let enough = le-leb 1024 (length buffer) long in
-        rw (enough, BufferShowGives) (subst (λ o. HeldShowGives (meaning_of table) o buffer (Ok r) after) (sym (held_term ws shown held.formed held.spelled)) h)
-
-    -- the stepper would load what is held: that is shown
-    pub shows_term : (r : Result (Unit {0}) Refusal) → Same r (verdict (expansion_of table other)) → false ≡ is_err r → BufferShowGives (meaning_of table) (term_of ws) buffer (Ok (Some (length other))) (other ++ drop (length other) buffer)
-    shows_term (Err refusal) h test = apart (cc)
-    shows_term (Ok x) h test =
-        subst (λ xs. BufferShowGives (meaning_of table) (term_of ws) buffer (Ok (Some (length xs))) (xs ++ drop (length xs) buffer)) (sym same) (by_expansion (expansion_of table ws) refl (h ∙ ap (λ xs. verdict (expansion_of table xs)) same))
-      where
-        by_expansion : (r : Result Expanded Refusal) → expansion_of table ws ≡ r → Same (Ok x) (verdict r) → BufferShowGives (meaning_of table) (term_of ws) buffer (Ok (Some (length ws))) (ws ++ drop (length ws) buffer)
-        by_expansion (Err refusal) v h = apart (cc)
-        by_expansion (Ok d) v h =
-            let l = loadable table ws d v in
-            let few : length (written shown) ≤ 1024 = subst (λ xs. length xs ≤ 1024) (sym held.spelled) (omega (arith, l.few, sound.holds_few)) in
-            let expands : expansion_of table (written shown) ≡ Ok d = ap (expansion_of table) held.spelled ∙ v in
-            let same : d.term ≡ shown = let a = held_term ws d.term l.formed l.spelled in let b = held_term ws shown held.formed held.spelled in cc in
-            with_held (Some (length ws)) (ws ++ drop (length ws) buffer) (shown, (held.formed, few, (d, expands, same)), ap length (sym held.spelled), ap (λ xs. xs ++ drop (length ws) buffer) (sym held.spelled))
-
-    -- it would not: nothing expands to it
-    pub shows_none : (r : Result (Unit {0}) Refusal) → Same r (verdict (expansion_of table other)) → true ≡ is_err r → BufferShowGives (meaning_of table) (term_of ws) buffer (Ok None) buffer
-    shows_none (Ok x) h test = apart (cc)
-    shows_none (Err refusal) h test = by_expansion (expansion_of table ws) refl (h ∙ ap (λ xs. verdict (expansion_of table xs)) same)
-      where
-        by_expansion : (r : Result Expanded Refusal) → expansion_of table ws ≡ r → Same (Err refusal) (verdict r) → BufferShowGives (meaning_of table) (term_of ws) buffer (Ok None) buffer
-        by_expansion (Ok d) v h = apart (cc)
-        by_expansion (Err other) v h =
-            with_held None buffer ((λ u s. let same = expands_to table u shown s.0 s.2 in let a = ap (expansion_of table) (ap written same ∙ held.spelled) ∙ v in let b = s.2.1 in apart (cc)), refl)
+  -- a core term is shown as it is
+  pub shows_term : (ws other buffer : List ℕ) → other ≡ ws → Holds table ws other → 1024 ≤ length buffer → BufferShowGives (meaning_of table) (term_of ws) buffer (Ok (Some (length other))) (other ++ drop (length other) buffer)
+  shows_term ws other buffer same held long =
+      let shown = held.tree in
+      let enough = le-leb 1024 (length buffer) long in
+      let size : length other ≡ length (written shown) = ap length (same ∙ sym held.spelled) in
+      let few : length (written shown) ≤ 1024 = omega (arith, ap length held.spelled, held.few, sound.holds_few) in
+      let loads = loads_term table shown held.formed (subst (λ xs. length xs ≤ table.capacity) (sym held.spelled) held.few) held.had in
+      let after : other ++ drop (length other) buffer ≡ written shown ++ drop (length other) buffer = ap (λ xs. xs ++ drop (length other) buffer) (same ∙ sym held.spelled) in
+      rw (enough, BufferShowGives) (subst (λ o. HeldShowGives (meaning_of table) o buffer (Ok (Some (length other))) (other ++ drop (length other) buffer)) (sym (held_term ws shown held.formed held.spelled)) (shown, (held.formed, few, (record { term = shown; uses = 0 }, loads, refl)), size, after))

@@ -3,7 +3,7 @@ use Rattle.std.specs.Prelude.{◌≡◌, ℕ, ◌≤◌, Bool, true, false, cond
 use Rattle.std.proofs.Math.Path.{refl}
 use Rattle.std.proofs.Common.{sym, ap, subst, ◌∙◌}
 use Rattle.std.proofs.lemmas.List.{append-nil}
-use Rattle.std.proofs.lemmas.Bool.{leb-true, le-leb, and_parts, and_from}
+use Rattle.std.proofs.lemmas.Bool.{leb-true, le-leb}
 use Rattle.terms.specs.declared.front.Broken.{Broken}
 use Rattle.terms.specs.Trees.{Tree, written, WellFormed, bare, term_of}
 use Rattle.terms.specs.Fronts.{ending, wholly}
@@ -127,34 +127,28 @@ module _ (table : Table) where
     plain_is_held = λ u t formed unmarked h. ap bare (sym (expands_to u t formed h)) ∙ bare_same u unmarked;
   }
 
--- what a machine may hold: nothing, or the words of a term of at most 1,024
-pub data Held (words : List ℕ) : Type 0 where
-  empty : words ≡ [] → Held words
-  term : (t : Tree) → WellFormed t → written t ≡ words → length words ≤ 1024 → Held words
+module _ (table : Table) where
+  -- what a machine may hold: nothing, or words that the stepper loads
+  pub data Held (words : List ℕ) : Type 0 where
+    empty : words ≡ [] → Held words
+    loads : (e : Expanded) → expansion_of table words ≡ Ok e → Held words
 
-whole_ok : (words : List ℕ) (r : Result (Unit {0}) Broken) → wholly false words ≡ r → is_ok r ≡ true → (t : Tree) × WellFormed t × (written t ≡ words)
-whole_ok words (Ok x) e h = term_whole words x e
-whole_ok words (Err b) e h = apart (cc)
+  ok_loads : (words : List ℕ) (r : Result Expanded Refusal) → expansion_of table words ≡ r → is_ok r ≡ true → Held words
+  ok_loads words (Ok e) v h = loads e v
+  ok_loads words (Err refusal) v h = apart (cc)
 
-pub held_words : (words : List ℕ) → holdable words ≡ true → Held words
-unfolding holdable
-held_words [] h = empty refl
-held_words (w ∷ ws) h =
-    let both = and_parts (is_ok (wholly false (w ∷ ws))) (nat_le (length (w ∷ ws)) 1024) h in
-    let t = whole_ok (w ∷ ws) (wholly false (w ∷ ws)) refl both.0 in
-    term t.0 t.1 t.2 (leb-true (length (w ∷ ws)) 1024 both.1)
+  pub held_words : (words : List ℕ) → holdable table words ≡ true → Held words
+  unfolding holdable
+  held_words [] h = empty refl
+  held_words (w ∷ ws) h = ok_loads (w ∷ ws) (expansion_of table (w ∷ ws)) refl h
 
-holdable_by : (words : List ℕ) → wholly false words ≡ Ok tt → length words ≤ 1024 → holdable words ≡ true
-unfolding holdable
-holdable_by [] e few = refl
-holdable_by (w ∷ ws) e few =
-    and_from (is_ok (wholly false (w ∷ ws))) (nat_le (length (w ∷ ws)) 1024) (ap is_ok e) (le-leb (length (w ∷ ws)) 1024 few)
+  -- what the stepper loads may be held
+  pub loaded_holdable : (words : List ℕ) (e : Expanded) → expansion_of table words ≡ Ok e → holdable table words ≡ true
+  unfolding holdable
+  loaded_holdable [] e h = refl
+  loaded_holdable (w ∷ ws) e h = ap is_ok h
 
--- the words of a term of at most 1,024 may be held
-pub term_holdable : (t : Tree) (words : List ℕ) → WellFormed t → written t ≡ words → length words ≤ 1024 → holdable words ≡ true
-term_holdable t words formed e few = holdable_by words (ap (wholly false) (sym e) ∙ whole_term t formed) few
-
--- nothing may be held
-pub holdable_none : (words : List ℕ) → words ≡ [] → holdable words ≡ true
-unfolding holdable
-holdable_none words e = ap holdable e
+  -- nothing may be held
+  pub holdable_none : (words : List ℕ) → words ≡ [] → holdable table words ≡ true
+  unfolding holdable
+  holdable_none words e = ap (holdable table) e

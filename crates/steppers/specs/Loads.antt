@@ -1,5 +1,5 @@
 -- What a stepper loads, and its meaning as a language.
-use Rattle.std.specs.Prelude.{ℕ, ◌+◌, Bool, true, false, cond, ◌&&◌, List, [], ◌∷◌, length, is_ok, Some, None, Ok, Err, Option, Result, nat_le}
+use Rattle.std.specs.Prelude.{ℕ, ◌+◌, Bool, true, false, cond, List, [], ◌∷◌, length, is_ok, Some, None, Ok, Err, Option, Result, nat_le}
 use Rattle.terms.specs.Trees.{Tree, Trees, atom, variable, body, head, form, none, more, count, written, written_all, term_of}
 use Rattle.terms.specs.Fronts.{wholly}
 use Rattle.languages.specs.declared.refusal.Refusal.{Refusal}
@@ -40,11 +40,11 @@ unfolding wholly term_of lacking
 expansion_of table words =
     cond (nat_le (length words) table.capacity) (elim (wholly false words) [ Err b ↦ Err (NoTerm 0 b.place) | Ok x ↦ itself table.has (term_of words) ]) (Err (TooLong 0 table.capacity))
 
--- no words, or one well-formed term of at most 1,024
-unfoldable pub holdable : List ℕ → Bool
-unfolding wholly
-holdable [] = true
-holdable (w ∷ ws) = is_ok (wholly false (w ∷ ws)) && nat_le (length (w ∷ ws)) 1024
+-- no words, or words that the stepper loads
+unfoldable pub holdable : Table → List ℕ → Bool
+unfolding expansion_of
+holdable table [] = true
+holdable table (w ∷ ws) = is_ok (expansion_of table (w ∷ ws))
 
 -- the meaning of the machine that holds this stepper's term
 abbrev pub meaning_of : Table → Meaning

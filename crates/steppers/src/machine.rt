@@ -5,12 +5,12 @@ ghost use Rattle.steppers.specs.Loads.{holdable};
 use crate::room::Room;
 use crate::stepper::Stepper;
 
-// Holds the words of one term, or none. The memory for both runs of words is taken when the machine is made.
+// Holds the words of one term that the stepper loads, or none. The memory for both runs of words is taken when the machine is made.
 #[derive(Drop)]
 pub struct Machine<S: Stepper> {
     pub(crate) stepper: S,
     pub(crate) term: Room,
     // where the next term is written
     pub(crate) next: Room,
-    ghost holds: { holdable term ≡ true },
+    ghost holds: { holdable S.Stepper.table term ≡ true },
 }

@@ -85,8 +85,7 @@ impl<S: Stepper + Drop> Language for Machine<S> {
                 }
             }
             // the next term is the term itself
-            Action::Wait if term.len() <= S::CAPACITY => Ok(Stepped::Moved { effect: 0 }),
-            Action::Wait => Ok(Stepped::Full),
+            Action::Wait => Ok(Stepped::Moved { effect: 0 }),
             Action::Child(_) | Action::Stuck => Ok(Stepped::Stuck),
         }
     }
@@ -101,10 +100,6 @@ impl<S: Stepper + Drop> Language for Machine<S> {
         let term = self.term.as_slice();
         if term.is_empty() {
             return Err(Refusal::NothingHeld);
-        }
-        // The type says that one well-formed term is held, and cannot say of which forms; what came by load passes.
-        if admit::<S>(term).is_err() {
-            return Ok(None);
         }
         write_shown(buffer, term);
         Ok(Some(term.len()))

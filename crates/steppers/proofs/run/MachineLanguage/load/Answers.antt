@@ -13,7 +13,7 @@ append-requires g c =
 pub invariant_of-self : goal.invariant_of-self
 invariant_of-self g c =
     let l = loads_held g.S.Stepper.table g.met.S.Stepper.sound c.args.words.now (term_of c.args.self.now.term) _ c.in_ok-admit.ensures in
-    record { holds = ap holdable (c.append.ensures ∙ ap (λ xs. xs ++ c.args.words.now) c.clear.ensures) ∙ l.1 }
+    record { holds = ap (holdable g.S.Stepper.table) (c.append.ensures ∙ ap (λ xs. xs ++ c.args.words.now) c.clear.ensures) ∙ l.1 }
 
 pub returns-clause-answer : goal.returns-clause-answer
 returns-clause-answer g c =

@@ -1,5 +1,5 @@
-use Rattle.std.proofs.Common.{sym, ap, ◌∙◌, length, arith}
-use Rattle.steppers.proofs.Machining.{no_words, ready, steps_nothing, steps_ended, waits, waits_full, sticks, replaces}
+use Rattle.std.proofs.Common.{sym, ◌∙◌, arith}
+use Rattle.steppers.proofs.Machining.{no_words, ready, steps_nothing, steps_ended, waits, sticks, replaces}
 use Rattle.steppers.proofs.run.MachineLanguage.step.Goals as goal
 
 pub returns-then-is_empty-clause-answer : goal.returns-then-is_empty-clause-answer
@@ -38,12 +38,7 @@ returns-else-replace-clause-answer g c =
 pub returns-in-Wait-clause-answer : goal.returns-in-Wait-clause-answer
 returns-in-Wait-clause-answer g c =
     let r = ready g.S.Stepper.table g.met.S.Stepper.sound _ _ c.args.inputs c.find-spot.result c.as_slice-term.ensures c.args.self.now.holds c.if-is_empty.ensures c.if-is_over.ensures c.find-spot.ensures in
-    waits g.S.Stepper.table g.met.S.Stepper.sound _ _ _ r c.in-Wait.is (omega (arith, c.if-term-CAPACITY.true, c.CAPACITY-in-Wait-1.ensures, g.met.S.Stepper.same_capacity, ap length c.as_slice-term.ensures))
-
-pub returns-in-Wait-2-clause-answer : goal.returns-in-Wait-2-clause-answer
-returns-in-Wait-2-clause-answer g c =
-    let r = ready g.S.Stepper.table g.met.S.Stepper.sound _ _ c.args.inputs c.find-spot.result c.as_slice-term.ensures c.args.self.now.holds c.if-is_empty.ensures c.if-is_over.ensures c.find-spot.ensures in
-    waits_full g.S.Stepper.table g.met.S.Stepper.sound _ _ _ r c.in-Wait-2.is (omega (arith, c.if-term-CAPACITY.false, c.CAPACITY-in-Wait-1.ensures, g.met.S.Stepper.same_capacity, ap length c.as_slice-term.ensures))
+    waits g.S.Stepper.table g.met.S.Stepper.sound _ _ _ r c.in-Wait.is
 
 pub returns-in-Child-clause-answer : goal.returns-in-Child-clause-answer
 returns-in-Child-clause-answer g c =
