@@ -4,7 +4,7 @@ use Rattle.std.proofs.lemmas.List.{length-drop, take_rest}
 use Rattle.steppers.specs.declared.action.Action.{Action}
 use Rattle.steppers.specs.Table.{Table}
 use Rattle.steppers.specs.Placed.{InsideOf, ActionOf, StartOf}
-use Rattle.steppers.proofs.Spots.{spotted_none, spotted_here, spotted_no_child, spotted_child}
+use Rattle.steppers.proofs.Spots.{spotted_here, spotted_no_child, spotted_child}
 use Rattle.steppers.proofs.find.find.Goals as goal
 
 -- what is answered about the slice from n on holds of the words from n on
