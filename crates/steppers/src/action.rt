@@ -1,4 +1,4 @@
-// What a step does at a node.
+// What a step does at a node. Forms are told by their labels, since a term may have forms that its stepper lacks.
 
 // What is seen of a term: the node inside its marks.
 #[derive(Clone, Copy, Debug, PartialEq, Eq)]

@@ -20,6 +20,8 @@ fn dropped_by(word: u32) -> Option<usize>
 }
 
 // How many words of marks the term at the front of the words begins with, dropped terms counted.
+// Written out where it is called: a step calls it twice at each level of a term, and is slower by a third with calls.
+#[inline(always)]
 pub(crate) fn inside(words: &[u32]) -> usize
     ensures { InsideOf words.now result }
 {
@@ -56,6 +58,8 @@ fn form_count(word: u32) -> Option<usize>
 }
 
 // Where child i of the form that the words begin with begins.
+// Written out where it is called, for the same reason.
+#[inline(always)]
 pub(crate) fn child_start(node: &[u32], i: usize) -> Option<usize>
     ensures { StartOf node.now i result }
 {
