@@ -4,7 +4,7 @@ use mathlib.Core.List.{map-append}
 use Rattle.std.proofs.lemmas.List.{drop_more}
 use Rattle.std.proofs.lemmas.Bool.{ne_eqb, leb-true, and_parts}
 use Rattle.terms.specs.Words.{word}
-use Rattle.texts.proofs.Answering.{same_some, none_not_some, tested}
+use Rattle.std.proofs.lemmas.Option.{same_Some, none-some, cond_some}
 use Rattle.texts.specs.Numbers.{number_of}
 use Rattle.replay.specs.Numbers.{at_colon, word_by, word_of, Spell}
 
