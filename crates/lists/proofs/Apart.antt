@@ -9,7 +9,8 @@ use Rattle.std.specs.List.{list_any}
 use Rattle.lists.specs.Sides.{clash, agree, overlapping, form_word, is_for}
 use Rattle.lists.specs.Sound.{overlaps_some, none_overlap_from, none_overlap, all_ruled}
 use Rattle.lists.specs.Laws.{Overlaps, HasRule}
-use Rattle.lists.proofs.Quantified.{all_if_every, every_if_all, all_by, has_if_any, any_if_has, none_if_not_any, not_any_if_none}
+use Rattle.std.proofs.ByRecursion.{All-weaker}
+use Rattle.lists.proofs.Quantified.{all_if_every, every_if_all, has_if_any, any_if_has, none_if_not_any, not_any_if_none}
 
 -- no place with two different atoms
 NoClash : List ℕ → List ℕ → Type 0
@@ -104,9 +105,9 @@ for_form f s [] is e = absurd (false≢true e)
 for_form f s (w ∷ ws) is e = (ws, sym is ∙ ap (λ x. x ∷ ws) (sym (eqb-true (form_word f) w e)))
 
 pub ruled_if : (forms : List Form) (rules : List Sides) → all_ruled forms rules ≡ true → AllByRecursion (HasRule rules) forms
-ruled_if forms rules e = all_by (λ f is. let r = has_if_any (is_for f) rules is in let a = for_form f r.0 r.0.left refl r.2 in (r.0, a.0, r.1, a.1)) forms (all_if_every (λ f. list_any (is_for f) rules) forms e)
+ruled_if forms rules e = All-weaker _ _ (λ f is. let r = has_if_any (is_for f) rules is in let a = for_form f r.0 r.0.left refl r.2 in (r.0, a.0, r.1, a.1)) forms (all_if_every (λ f. list_any (is_for f) rules) forms e)
 
 pub if_ruled : (forms : List Form) (rules : List Sides) → AllByRecursion (HasRule rules) forms → all_ruled forms rules ≡ true
 if_ruled forms rules a =
     every_if_all (λ f. list_any (is_for f) rules) forms
-    (all_by (λ f h. any_if_has (is_for f) rules h.0 h.2 (ap (λ left. elim left [ [] ↦ false | w ∷ ws ↦ eqb (form_word f) w ]) h.3 ∙ eq-eqb (form_word f) (form_word f) refl)) forms a)
+    (All-weaker _ _ (λ f h. any_if_has (is_for f) rules h.0 h.2 (ap (λ left. elim left [ [] ↦ false | w ∷ ws ↦ eqb (form_word f) w ]) h.3 ∙ eq-eqb (form_word f) (form_word f) refl)) forms a)

@@ -12,9 +12,9 @@ use Rattle.lists.specs.Sides.{shaped, linear, is_for}
 use Rattle.lists.specs.Acceptance.{side_fault, overlap_fault, form_fault}
 use Rattle.lists.specs.Sound.{overlaps_some}
 
-pub any-map : {X Y : Type 0} (f : X → Y) (test : Y → Bool) (xs : List X) → list_any (λ x. test (f x)) xs ≡ list_any test (map f xs)
-any-map f test [] = refl
-any-map f test (x ∷ xs) = ap (λ t. test (f x) || t) (any-map f test xs)
+pub list_any-map : {X Y : Type 0} (f : X → Y) (test : Y → Bool) (xs : List X) → list_any (λ x. test (f x)) xs ≡ list_any test (map f xs)
+list_any-map f test [] = refl
+list_any-map f test (x ∷ xs) = ap (λ t. test (f x) || t) (list_any-map f test xs)
 
 -- the rule at an index, and those behind it
 split : (rules : List Rule) (n : ℕ) (r : Rule) → n < length rules → r ≡ get_or rules n r → map sides_of (drop n rules) ≡ sides_of r ∷ map sides_of (drop (n + 1) rules)

@@ -1,5 +1,6 @@
 -- A list has no fault exactly when it passes the tests that every list passes.
-use Rattle.std.proofs.Common.{◌≡◌, ℕ, suc, Bool, true, false, cond, not, List, [], ◌∷◌, ◌++◌, Some, None, Option, refl}
+use Rattle.std.proofs.Common.{◌≡◌, ℕ, suc, Bool, true, false, cond, not, List, [], ◌∷◌, ◌++◌, Some, None, Option, sym, refl}
+use Rattle.std.proofs.lemmas.Option.{none-some}
 use Rattle.std.specs.Option.{option_or}
 use Rattle.std.proofs.lemmas.Bool.{and_parts, and_from, not_from_false, not-true}
 use Rattle.lists.specs.declared.parts.Form.{Form}
@@ -9,16 +10,15 @@ use Rattle.std.specs.List.{list_all, list_any}
 use Rattle.lists.specs.Sides.{shaped, linear, is_for}
 use Rattle.lists.specs.Sound.{all_shaped, all_linear, overlaps_some, none_overlap_from, none_overlap, all_ruled}
 use Rattle.lists.specs.Acceptance.{Listed, side_fault, overlap_fault, form_fault, fault_in}
-use Rattle.texts.proofs.Answering.{some_not_none}
 
 -- a fault comes unless the test passes, and then the rest decides
 unless : (b : Bool) (o : Option Refusal) (e : Refusal) → cond b o (Some e) ≡ None → (b ≡ true) × (o ≡ None)
 unless true o e p = (refl, p)
-unless false o e p = absurd (some_not_none p)
+unless false o e p = absurd (none-some _ (sym p))
 
 -- a fault comes if the test passes, and else the rest decides
 if_not : (b : Bool) (o : Option Refusal) (e : Refusal) → cond b (Some e) o ≡ None → (b ≡ false) × (o ≡ None)
-if_not true o e p = absurd (some_not_none p)
+if_not true o e p = absurd (none-some _ (sym p))
 if_not false o e p = (refl, p)
 
 pub sides_faultless : (k : ℕ) (forms : List Form) (i : ℕ) (ss : List Sides) → side_fault k forms i ss ≡ None → (all_shaped k forms ss ≡ true) × (all_linear ss ≡ true)
@@ -69,7 +69,7 @@ faultless_forms rules i (f ∷ fs) e =
 -- no fault in either place
 neither : (o p : Option Refusal) → option_or o p ≡ None → (o ≡ None) × (p ≡ None)
 neither None p e = (refl, e)
-neither (Some x) p e = absurd (some_not_none e)
+neither (Some x) p e = absurd (none-some _ (sym e))
 
 pub record Faultless (l : Listed) : Type 0 where
   pub shaped : all_shaped l.layer l.forms l.rules ≡ true

@@ -26,7 +26,8 @@ use Rattle.lists.proofs.Rising.{forms_rise, rising_read, rise, risen, form_words
 use Rattle.lists.proofs.Ruled.{Sized, InWords, rules_said, said_rules}
 use Rattle.lists.proofs.Faultless.{Faultless, no_fault, faultless}
 use Rattle.lists.proofs.Accepting.{by_table}
-use Rattle.lists.proofs.Quantified.{all_if_every, every_if_all, all_by, all_by₂, all_by₃}
+use Rattle.std.proofs.ByRecursion.{All-weaker}
+use Rattle.lists.proofs.Quantified.{all_if_every, every_if_all, all_by₂, all_by₃}
 use Rattle.lists.proofs.Shaped.{left_side, left_shaped_lem, right_side, right_shaped_lem, arguments_small, rights_small}
 use Rattle.lists.proofs.Placed.{placed_once, once_placed, bound_from_left, from_left_bound}
 use Rattle.lists.proofs.Apart.{apart_if_none, none_if_apart, ruled_if, if_ruled}
@@ -119,18 +120,18 @@ variables_proper s e =
 
 proper : (header : List ℕ) (l : Listed) → HeaderSaid header l → AllByRecursion Sized l.rules → Faultless l → Proper l
 proper header l h sizes f =
-    let sides = all_by (sides_proper l.layer l.forms) l.rules (all_if_every (shaped l.layer l.forms) l.rules f.shaped) in
-    let variables = all_by variables_proper l.rules (all_if_every linear l.rules f.linear) in
+    let sides = All-weaker _ _ (sides_proper l.layer l.forms) l.rules (all_if_every (shaped l.layer l.forms) l.rules f.shaped) in
+    let variables = All-weaker _ _ variables_proper l.rules (all_if_every linear l.rules f.linear) in
     record {
       layer = h.layer;
       form_count = h.form_count;
       rule_count = h.rule_count;
       forms = rise l.layer 0 l.forms h.rising_forms;
-      sizes = all_by (λ s p. (p.1, p.3)) l.rules sizes;
-      lefts = all_by (λ s p. p.0) l.rules sides;
-      rights = all_by (λ s p. p.1) l.rules sides;
-      once = all_by (λ s p. p.0) l.rules variables;
-      from_left = all_by (λ s p. p.1) l.rules variables;
+      sizes = All-weaker _ _ (λ s p. (p.1, p.3)) l.rules sizes;
+      lefts = All-weaker _ _ (λ s p. p.0) l.rules sides;
+      rights = All-weaker _ _ (λ s p. p.1) l.rules sides;
+      once = All-weaker _ _ (λ s p. p.0) l.rules variables;
+      from_left = All-weaker _ _ (λ s p. p.1) l.rules variables;
       apart = apart_if_none l.rules f.apart;
       ruled = ruled_if l.forms l.rules f.ruled;
     }
@@ -170,10 +171,10 @@ module _ (l : Listed) (p : Proper l) where
   rises = risen l.layer 0 l.forms p.forms
 
   lefts_shaped : AllByRecursion (λ s. left_shaped l.forms s.left ≡ true) l.rules
-  lefts_shaped = all_by (λ s h. left_shaped_lem l.forms s.left h) l.rules p.lefts
+  lefts_shaped = All-weaker _ _ (λ s h. left_shaped_lem l.forms s.left h) l.rules p.lefts
 
   rights_shaped : AllByRecursion (λ s. right_shaped l.layer s.right ≡ true) l.rules
-  rights_shaped = all_by (λ s h. right_shaped_lem l.layer s.right h) l.rules p.rights
+  rights_shaped = All-weaker _ _ (λ s h. right_shaped_lem l.layer s.right h) l.rules p.rights
 
   sized : AllByRecursion Sized l.rules
   sized = all_by₃ (λ s a b c. (left_some l.forms s.left a, c.0, right_some l.layer s.right b, c.1)) l.rules lefts_shaped rights_shaped p.sizes

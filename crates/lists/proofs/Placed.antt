@@ -8,7 +8,8 @@ use Rattle.terms.specs.Words.{node_of}
 use Rattle.std.specs.List.{list_all}
 use Rattle.lists.specs.Sides.{is_variable, holds, repeated, once_each, bound}
 use Rattle.lists.specs.Laws.{OncePlaced, FromLeft}
-use Rattle.lists.proofs.Quantified.{all_if_every, every_if_all, all_by, has_if_any, any_if_has}
+use Rattle.std.proofs.ByRecursion.{All-weaker}
+use Rattle.lists.proofs.Quantified.{all_if_every, every_if_all, has_if_any, any_if_has}
 
 pub holds_if_has : (ws : List ℕ) (w : ℕ) → ContainsAt ws w → holds ws w ≡ true
 holds_if_has ws w h = any_if_has (eqb w) ws w h (eq-eqb w w refl)
@@ -54,7 +55,7 @@ bound_from_left left right e w has v =
     by false e h = absurd (false≢true e)
 
 pub from_left_bound : (left right : List ℕ) → FromLeft left right → list_all (bound left) right ≡ true
-from_left_bound left right p = every_if_all (bound left) right (all_by (λ w has. by w has (is_variable (node_of w)) refl) right (all_has_itself right))
+from_left_bound left right p = every_if_all (bound left) right (All-weaker _ _ (λ w has. by w has (is_variable (node_of w)) refl) right (all_has_itself right))
   where
     by : (w : ℕ) → ContainsAt right w → (t : Bool) → is_variable (node_of w) ≡ t → (not t || holds left w) ≡ true
     by w has true v = holds_if_has left w (p w has v)

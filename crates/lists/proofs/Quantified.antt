@@ -1,4 +1,4 @@
--- The tests `every` and `any` as statements about each element and about some element.
+-- The tests `list_all` and `list_any` as statements about each element and about some element.
 use Rattle.std.proofs.Common.{◌≡◌, ℕ, zero, suc, ◌<◌, Bool, true, false, ◌||◌, List, [], ◌∷◌, length, get_or, refl, ap, ◌∙◌, arith}
 use Rattle.std.specs.List.{ContainsAt, AllByRecursion}
 use Rattle.std.proofs.lemmas.Bool.{and_parts, and_from, or_left, or_right, both_ways, false≢true}
@@ -12,11 +12,7 @@ pub every_if_all : {X : Type 0} (test : X → Bool) (xs : List X) → AllByRecur
 every_if_all test [] p = refl
 every_if_all test (x ∷ xs) p = and_from (test x) (list_all test xs) p.0 (every_if_all test xs p.1)
 
--- one property of each element from another
-pub all_by : {X : Type 0} {P Q : X → Type 0} → ((x : X) → P x → Q x) → (xs : List X) → AllByRecursion P xs → AllByRecursion Q xs
-all_by f [] p = tt
-all_by f (x ∷ xs) p = (f x p.0, all_by f xs p.1)
-
+-- one property of each element from others
 pub all_by₂ : {X : Type 0} {P Q R : X → Type 0} → ((x : X) → P x → Q x → R x) → (xs : List X) → AllByRecursion P xs → AllByRecursion Q xs → AllByRecursion R xs
 all_by₂ f [] p q = tt
 all_by₂ f (x ∷ xs) p q = (f x p.0 q.0, all_by₂ f xs p.1 q.1)

@@ -7,7 +7,7 @@ use Rattle.lists.specs.declared.refusal.Place.TheVariants as place
 use Rattle.texts.specs.Texts.{Reading, head_line, form_line, table_line, rule_line, broken_line}
 use Rattle.lists.specs.Lines.{Sides, within, sides_from, words_of, rule_of, rule_of_line}
 use Rattle.lists.specs.Spelling.{word_fields, rule_says, rules_say}
-use Rattle.texts.proofs.Answering.{none_not_some, same_some}
+use Rattle.std.proofs.lemmas.Option.{same_Some, none-some}
 use Rattle.lists.proofs.Keeping.{ReadAs}
 use Rattle.lists.proofs.Worded.{fields_of_words, words_of_fields, fields_length}
 use Rattle.lists.proofs.Wording.{rule_is}
@@ -18,10 +18,10 @@ Sized s = (1 ≤ length s.left) × (length s.left ≤ 9) × (1 ≤ length s.righ
 
 -- an answer under a test, of two sides
 two_sides : (t : Bool) (l r : Option (List ℕ)) (s : Sides) → cond t (sides_from l r) None ≡ Some s → (t ≡ true) × (l ≡ Some s.left) × (r ≡ Some s.right)
-two_sides false l r s e = absurd (none_not_some e)
-two_sides true None r s e = absurd (none_not_some e)
-two_sides true (Some l) None s e = absurd (none_not_some e)
-two_sides true (Some l) (Some r) s e = let same = same_some e in (refl, ap (λ (x : Sides). Some x.left) same, ap (λ (x : Sides). Some x.right) same)
+two_sides false l r s e = absurd (none-some _ e)
+two_sides true None r s e = absurd (none-some _ e)
+two_sides true (Some l) None s e = absurd (none-some _ e)
+two_sides true (Some l) (Some r) s e = let same = same_Some _ _ e in (refl, ap (λ (x : Sides). Some x.left) same, ap (λ (x : Sides). Some x.right) same)
 
 rule_of_says : (k n a b : ℕ) (ns : List ℕ) (s : Sides) → rule_of k (n ∷ a ∷ b ∷ ns) ≡ Some s → (rule_line (n ∷ a ∷ b ∷ ns) ≡ rule_says k s) × Sized s
 rule_of_says k n a b ns s e =
@@ -43,14 +43,14 @@ rule_of_says k n a b ns s e =
     )
 
 pub rule_says_lem : (k : ℕ) (r : Reading) (s : Sides) → rule_of_line k r ≡ Some s → (r ≡ rule_says k s) × Sized s
-rule_says_lem k (rule_line []) s e = absurd (none_not_some e)
-rule_says_lem k (rule_line (n ∷ [])) s e = absurd (none_not_some e)
-rule_says_lem k (rule_line (n ∷ a ∷ [])) s e = absurd (none_not_some e)
+rule_says_lem k (rule_line []) s e = absurd (none-some _ e)
+rule_says_lem k (rule_line (n ∷ [])) s e = absurd (none-some _ e)
+rule_says_lem k (rule_line (n ∷ a ∷ [])) s e = absurd (none-some _ e)
 rule_says_lem k (rule_line (n ∷ a ∷ b ∷ ns)) s e = rule_of_says k n a b ns s e
-rule_says_lem k (head_line ns) s e = absurd (none_not_some e)
-rule_says_lem k (form_line ns) s e = absurd (none_not_some e)
-rule_says_lem k (table_line ns) s e = absurd (none_not_some e)
-rule_says_lem k broken_line s e = absurd (none_not_some e)
+rule_says_lem k (head_line ns) s e = absurd (none-some _ e)
+rule_says_lem k (form_line ns) s e = absurd (none-some _ e)
+rule_says_lem k (table_line ns) s e = absurd (none-some _ e)
+rule_says_lem k broken_line s e = absurd (none-some _ e)
 
 -- the words fit 32 bits
 abbrev pub InWords : Sides → Type 0

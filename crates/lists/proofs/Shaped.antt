@@ -15,7 +15,8 @@ use Rattle.lists.specs.declared.parts.Form as declared
 use Rattle.std.specs.List.{list_all, list_any}
 use Rattle.lists.specs.Sides.{is_atom, is_variable, is_lower_form, is_argument, on_right, form_word, left_shaped, right_shaped}
 use Rattle.lists.specs.Laws.{LeftSide, RightSide}
-use Rattle.lists.proofs.Quantified.{all_if_every, every_if_all, all_by, has_if_any, any_if_has}
+use Rattle.std.proofs.ByRecursion.{All-weaker}
+use Rattle.lists.proofs.Quantified.{all_if_every, every_if_all, has_if_any, any_if_has}
 
 pub left_side : (forms : List declared.Form) (left : List ℕ) → left_shaped forms left ≡ true → LeftSide forms left
 left_side forms [] e = absurd (false≢true e)
@@ -110,7 +111,7 @@ right_small k w (Some (Head j r d)) s e = absurd (false≢true e)
 right_small k w (Some (Form l n)) s e = omega (arith, s.0, leb-true l 255 (and_parts (leb 16 l) (leb l 255) s.1).1, s.2)
 
 pub arguments_small : (args : List ℕ) → AllByRecursion (λ w. is_argument w ≡ true) args → AllByRecursion (λ w. w < 4294967296) args
-arguments_small args a = all_by (λ w e. node_small w (node_of w) (stands w) e) args a
+arguments_small args a = All-weaker _ _ (λ w e. node_small w (node_of w) (stands w) e) args a
 
 pub rights_small : (k : ℕ) (right : List ℕ) → AllByRecursion (λ w. on_right k w ≡ true) right → AllByRecursion (λ w. w < 4294967296) right
-rights_small k right a = all_by (λ w e. right_small k w (node_of w) (stands w) e) right a
+rights_small k right a = All-weaker _ _ (λ w e. right_small k w (node_of w) (stands w) e) right a

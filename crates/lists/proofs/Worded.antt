@@ -4,11 +4,11 @@ use Rattle.std.specs.List.{AllByRecursion}
 use Rattle.std.proofs.lemmas.Bool.{and_parts, leb-true, le-leb}
 use Rattle.lists.specs.Lines.{and_then, word_at, words_of}
 use Rattle.lists.specs.Spelling.{word_fields}
-use Rattle.texts.proofs.Answering.{none_not_some, same_some, tested}
+use Rattle.std.proofs.lemmas.Option.{same_Some, none-some, cond_some}
 
 word_parts : (l p w : ℕ) → word_at l p ≡ Some w → (w / 16777216 ≡ l) × (w % 16777216 ≡ p)
 word_parts l p w e =
-    let t = tested (leb l 255 && leb p 16777215) (l * 16777216 + p) w e in
+    let t = cond_some (leb l 255 && leb p 16777215) (l * 16777216 + p) w e in
     let small : p ≤ 16777215 = leb-true p 16777215 (and_parts (leb l 255) (leb p 16777215) t.0).1 in
     let is = t.1 in
     (omega arith, omega arith)
@@ -22,14 +22,14 @@ word_again w l =
 
 -- both answers are there
 both_some : (a : Option ℕ) (b : Option (List ℕ)) (ws : List ℕ) → and_then a (λ w. and_then b (λ vs. Some (w ∷ vs))) ≡ Some ws → (w : ℕ) × (vs : List ℕ) × (a ≡ Some w) × (b ≡ Some vs) × (ws ≡ w ∷ vs)
-both_some None b ws e = absurd (none_not_some e)
-both_some (Some w) None ws e = absurd (none_not_some e)
-both_some (Some w) (Some vs) ws e = (w, vs, refl, refl, sym (same_some e))
+both_some None b ws e = absurd (none-some _ e)
+both_some (Some w) None ws e = absurd (none-some _ e)
+both_some (Some w) (Some vs) ws e = (w, vs, refl, refl, sym (same_Some _ _ e))
 
 pub fields_of_words : (ns ws : List ℕ) → words_of ns ≡ Some ws → (ns ≡ word_fields ws) × (length ns ≡ 2 * length ws)
 unfolding words_of
-fields_of_words [] ws e = let z = sym (same_some e) in (ap word_fields (sym z), omega (arith, ap length z))
-fields_of_words (l ∷ []) ws e = absurd (none_not_some e)
+fields_of_words [] ws e = let z = sym (same_Some _ _ e) in (ap word_fields (sym z), omega (arith, ap length z))
+fields_of_words (l ∷ []) ws e = absurd (none-some _ e)
 fields_of_words (l ∷ p ∷ ns) ws e =
     let b = both_some (word_at l p) (words_of ns) ws e in
     let here = word_parts l p b.0 b.2 in

@@ -6,7 +6,7 @@ use Rattle.std.proofs.lemmas.Bool.{le-leb, lt-leb, leb-true, and_from, and_parts
 use Rattle.texts.specs.Numbers.{with_digit, digits_of, number_of}
 use Rattle.texts.specs.Texts.{number}
 use Rattle.texts.specs.Spelling.{value_from, Digits}
-use Rattle.texts.proofs.Answering.{same_some, none_not_some, tested}
+use Rattle.std.proofs.lemmas.Option.{same_Some, none-some, cond_some}
 
 -- one of the bytes 48 to 57
 abbrev pub Digit : ℕ → Type 0
@@ -44,24 +44,24 @@ number_is most (b ∷ bs) l = refl
 -- the value stays at most `most`
 with_within : (most v b next : ℕ) → with_digit most v b ≡ Some next → (v * 10 + (b - 48) ≡ next) × (next ≤ most) × Digit b
 with_within most v b next e =
-    let t = tested (leb 48 b && leb b 57 && leb (v * 10 + (b - 48)) most) (v * 10 + (b - 48)) next e in
+    let t = cond_some (leb 48 b && leb b 57 && leb (v * 10 + (b - 48)) most) (v * 10 + (b - 48)) next e in
     let parts = and_parts (leb 48 b && leb b 57) (leb (v * 10 + (b - 48)) most) t.0 in
     let fits = leb-true (v * 10 + (b - 48)) most parts.1 in
     let digit = and_parts (leb 48 b) (leb b 57) parts.0 in
     (t.1, omega (arith, t.1, fits), (leb-true 48 b digit.0, leb-true b 57 digit.1))
 
 digits_within : (most v : ℕ) (bs : List ℕ) (n : ℕ) → v ≤ most → digits_of most v bs ≡ Some n → n ≤ most
-digits_within most v [] n l e = let same : v ≡ n = same_some (sym (digits_none most v) ∙ e) in omega arith
+digits_within most v [] n l e = let same : v ≡ n = same_Some _ _ (sym (digits_none most v) ∙ e) in omega arith
 digits_within most v (b ∷ bs) n l e = by (with_digit most v b) refl (digits_within most (v * 10 + (b - 48)) bs n)
   where
     by : (o : Option ℕ) → with_digit most v b ≡ o → (v * 10 + (b - 48) ≤ most → digits_of most (v * 10 + (b - 48)) bs ≡ Some n → n ≤ most) → n ≤ most
-    by None o rest = absurd (none_not_some (sym (no_digit most v b bs o) ∙ e))
+    by None o rest = absurd (none-some _ (sym (no_digit most v b bs o) ∙ e))
     by (Some next) o rest =
         let is = with_within most v b next o in
         rest (omega (arith, is.0, is.1)) (ap (λ (x : ℕ). digits_of most x bs) is.0 ∙ sym (one_digit most v b bs next o) ∙ e)
 
 pub number_within : (most : ℕ) (digits : List ℕ) (n : ℕ) → number_of most digits ≡ Some n → n ≤ most
-number_within most [] n e = absurd (none_not_some e)
+number_within most [] n e = absurd (none-some _ e)
 number_within most (b ∷ bs) n e = digits_within most 0 (b ∷ bs) n (omega arith) e
 
 with_is : (most v b : ℕ) → Digit b → v * 10 + (b - 48) ≤ most → with_digit most v b ≡ Some (v * 10 + (b - 48))
@@ -80,11 +80,11 @@ digits_read most v (b ∷ bs) a l =
     one_digit most v b bs _ (with_is most v b a.0 (omega arith)) ∙ digits_read most (v * 10 + (b - 48)) bs a.1 l
 
 digits_spelled : (most v : ℕ) (bs : List ℕ) (n : ℕ) → digits_of most v bs ≡ Some n → AllByRecursion Digit bs × (value_from v bs ≡ n)
-digits_spelled most v [] n e = (tt, same_some (sym (digits_none most v) ∙ e))
+digits_spelled most v [] n e = (tt, same_Some _ _ (sym (digits_none most v) ∙ e))
 digits_spelled most v (b ∷ bs) n e = by (with_digit most v b) refl (digits_spelled most (v * 10 + (b - 48)) bs n)
   where
     by : (o : Option ℕ) → with_digit most v b ≡ o → (digits_of most (v * 10 + (b - 48)) bs ≡ Some n → AllByRecursion Digit bs × (value_from (v * 10 + (b - 48)) bs ≡ n)) → AllByRecursion Digit (b ∷ bs) × (value_from v (b ∷ bs) ≡ n)
-    by None o rest = absurd (none_not_some (sym (no_digit most v b bs o) ∙ e))
+    by None o rest = absurd (none-some _ (sym (no_digit most v b bs o) ∙ e))
     by (Some next) o rest =
         let is = with_within most v b next o in
         let others = rest (ap (λ (x : ℕ). digits_of most x bs) is.0 ∙ sym (one_digit most v b bs next o) ∙ e) in
@@ -110,7 +110,7 @@ number_spelled n field e =
     record { some = some; few = few; digits = is.0; worth = is.1; small = number_within 16777215 field n worth }
   where
     few_by : (8 < length field) ⊎ (length field ≤ 8) → length field ≤ 8
-    few_by (inl l) = absurd (none_not_some (sym (long_field field l) ∙ e))
+    few_by (inl l) = absurd (none-some _ (sym (long_field field l) ∙ e))
     few_by (inr l) = l
 
     few : length field ≤ 8
@@ -121,7 +121,7 @@ number_spelled n field e =
 
     some_by : (0 < length field) ⊎ (length field ≤ 0) → 0 < length field
     some_by (inl l) = l
-    some_by (inr l) = absurd (none_not_some (sym (no_bytes 16777215 field (omega arith)) ∙ worth))
+    some_by (inr l) = absurd (none-some _ (sym (no_bytes 16777215 field (omega arith)) ∙ worth))
 
     some : 0 < length field
     some = some_by (cases_lt 0 (length field))

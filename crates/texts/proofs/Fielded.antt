@@ -3,7 +3,7 @@ use Rattle.std.proofs.Common.{◌≡◌, ℕ, List, [], ◌∷◌, ◌++◌, Som
 use Rattle.std.proofs.ByRecursion.{All-weaker, All-append}
 use Rattle.texts.specs.Texts.{number, numbers, pieces}
 use Rattle.texts.specs.Spelling.{Digits, FieldsSpelled}
-use Rattle.texts.proofs.Answering.{same_some, none_not_some}
+use Rattle.std.proofs.lemmas.Option.{same_Some, none-some}
 use Rattle.texts.proofs.Digited.{Digit, number_read, number_spelled}
 use Rattle.texts.proofs.Parted.{Without, piece_only, piece_then, Cut, cut_of}
 
@@ -34,9 +34,9 @@ unfolding numbers
 first_number f fs ms e = by (number f) (numbers fs) refl refl e
   where
     by : (o : Option ℕ) (os : Option (List ℕ)) → number f ≡ o → numbers fs ≡ os → elim o [ None ↦ None | Some n ↦ elim os [ None ↦ None | Some ns ↦ Some (n ∷ ns) ] ] ≡ Some ms → (n : ℕ) × (ns : List ℕ) × (number f ≡ Some n) × (numbers fs ≡ Some ns) × (ms ≡ n ∷ ns)
-    by None os e es is = absurd (none_not_some is)
-    by (Some n) None e es is = absurd (none_not_some is)
-    by (Some n) (Some ns) e es is = (n, ns, e, es, sym (same_some is))
+    by None os e es is = absurd (none-some _ is)
+    by (Some n) None e es is = absurd (none-some _ is)
+    by (Some n) (Some ns) e es is = (n, ns, e, es, sym (same_Some _ _ is))
 
 -- fields that spell numbers read as them
 pub fields_read : (ns bs : List ℕ) → FieldsSpelled ns bs → numbers (pieces 44 bs) ≡ Some ns
@@ -54,7 +54,7 @@ spelled_by [] bs ns are e = absurd (rw are at (cut_of 44 bs))
 spelled_by (p ∷ []) bs ns are e =
     let cut : bs ≡ p = rw are at (cut_of 44 bs) in
     let first = first_number p [] ns e in
-    let none : first.1 ≡ [] = same_some (sym first.3 ∙ numbers_end) in
+    let none : first.1 ≡ [] = same_Some _ _ (sym first.3 ∙ numbers_end) in
     rw (first.4, none, cut) (number_spelled first.0 p first.2)
 spelled_by (p ∷ q ∷ qs) bs ns are e =
     let cut : Cut 44 bs (p ∷ q ∷ qs) = rw are at (cut_of 44 bs) in
