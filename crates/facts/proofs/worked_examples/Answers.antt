@@ -12,7 +12,6 @@ use Rattle.steppers.specs.Loads.{lacking, expansion_of}
 use Rattle.texts.specs.Numbers.{digits_of}
 use Rattle.texts.specs.Texts.{pieces, lines_of, lines, number, numbers, behind, numbered, said, readings}
 use Rattle.lists.specs.Lines.{words_of, judge_lines, judge_header, judge_table}
-use Rattle.std.specs.List.{list_all, list_any}
 use Rattle.lists.specs.Sides.{once_each, agree}
 use Rattle.lists.specs.Acceptance.{side_fault, overlap_fault, form_fault, fault_in, accepted}
 use Rattle.facts.proofs.worked_examples.Goals as goal
