@@ -5,7 +5,7 @@ use std::fmt;
 #[derive(Clone, Copy, PartialEq, Eq)]
 pub struct Accepted(pub u32, pub usize, pub usize);
 
-// The cause and the place.
+// The cause and the place, as the rules number them.
 #[derive(Clone, Copy, PartialEq, Eq)]
 pub struct Refused(pub u32, pub u64);
 

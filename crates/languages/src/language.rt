@@ -12,6 +12,7 @@ use crate::refusal::Refusal;
 pub const SHOWN_WORDS: usize = 1024;
 
 pub trait Language {
+    // Each call ensures that it stays, in a clause of its own: what is before and after a call no invariant can say.
     ghost meaning: { Self → Meaning };
 
     // What is held: nothing, as when new, or one core term.
@@ -28,6 +29,7 @@ pub trait Language {
         ensures stays { meaning self.new ≡ meaning self.old };
 
     // Writes the term that expands to what is held into the buffer, and answers how many words it has, or none.
+    // The buffer is the caller's and a runtime's memory is fixed, so what is shown is no Vec.
     fn show(&mut self, buffer: &mut [u32]) -> Result<Option<usize>, Refusal>
         ensures answer { BufferShowGives (meaning self.old) (held self.old) buffer.old result buffer.new }
         ensures keeps { held self.new ≡ held self.old }

@@ -6,7 +6,7 @@ use crate::calls::{Answer, Call};
 use crate::language::Language;
 use std::alloc::{AllocError, Global};
 
-// Makes one call.
+// Makes one call. A match on the kind of call, since calls are values of a list.
 fn make<L: Language>(language: &mut L, call: Call) -> Answer
     ensures answer { Gives (L.Language.meaning language.old) (L.Language.held language.old) (request_of call) (reply_of result) (L.Language.held language.new) }
     ensures stays { L.Language.meaning language.new ≡ L.Language.meaning language.old }

@@ -110,6 +110,7 @@ impl From<AllocError> for Refusal {
     }
 }
 
+// The library has two errors for want of memory, so the question mark needs two impls.
 impl<T: Drop> From<AllocFailed<T>> for Refusal {
     ghost from_gives = { λ _ r. r ≡ NoMemory };
 

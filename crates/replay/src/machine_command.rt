@@ -32,7 +32,7 @@ pub enum MachineCommand<'a> {
     Show { length: usize },
 }
 
-// Why a line that begins like a command for the machine is none.
+// Why a line that begins like a command for the machine is none. Not one enum with `Misread`, so that each has only the cases that its function answers.
 #[derive(Clone, Copy)]
 pub enum MachineMisread<'a> {
     WrongWords { usage: &'static str },
@@ -108,7 +108,7 @@ fn parse_show(words: &str) -> Result<MachineCommand<'_>, MachineMisread<'_>>
     })
 }
 
-// What a line asks of the machine; none for any other line.
+// What a line asks of the machine; none for any other line. A match, as in `parse`.
 pub fn parse_machine(line: &str) -> Option<Result<MachineCommand<'_>, MachineMisread<'_>>>
     ensures { MatchOption result (NamesNoMachineCommand (words_of line.now)) (AsksMachine (words_of line.now)) }
 {

@@ -30,6 +30,7 @@ pub enum Entry<'a> {
     Call(&'a str),
 }
 
+// Two lists, since a run takes its calls as one list and gives one of answers; each entry of a call has the next answer.
 #[derive(Drop)]
 pub struct Plan<'a> {
     pub entries: Vec<Entry<'a>>,

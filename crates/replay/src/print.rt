@@ -109,7 +109,7 @@ impl<'a> Account<'a> {
             }
             (Entry::List { header, table }, _) => self.print_list(header, table),
             (Entry::Held, _) => {
-                let held = Summary::of(&self.place);
+                let held = Summary::from(&self.place);
                 println!(self.rt; "held: {held}")
             }
             (Entry::Core(line), _) => println!(self.rt; "{line}: capacity {capacity}"),
@@ -129,6 +129,7 @@ impl<'a> Account<'a> {
     ) -> io::Result<()> {
         let mut answers = answers.into_iter();
         for entry in entries {
+            // counted by hand, since it goes on from one stretch of the job to the next
             self.number = self.number.saturating_add(1);
             let answer = match entry {
                 Entry::Call(_) => answers.next(),

@@ -41,6 +41,7 @@ fn run_machine<S: Stepper + Drop>(
     run_with(account, machine, S::CAPACITY, lines)
 }
 
+// A match, since each language has its own type, and a boxed one would be made here and handed on.
 // The lines of a stretch: the first names the core language of its machine, or there is none yet.
 pub fn run_stretch(account: &mut Account<'_>, lines: &[Vec<u8>]) -> io::Result<()> {
     match lines.first().and_then(|line| core_of(line)) {

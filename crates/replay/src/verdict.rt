@@ -21,10 +21,10 @@ fn rule_count(list: &RuleList) -> usize
     list.rules().len()
 }
 
-impl Summary {
-    pub fn of(list: &RuleList) -> Summary
-        ensures { result ≡ summary_of (listed_in list.now) }
-    {
+impl From<&RuleList> for Summary {
+    ghost from_gives = { λ list summary. summary ≡ summary_of (listed_in list.now) };
+
+    fn from(list: &RuleList) -> Summary {
         Summary {
             layer: list.layer(),
             forms: list.forms().len(),
@@ -43,5 +43,5 @@ pub fn decide(
     ensures { Judged header.now table.now place.old place.new result }
 {
     place.accept(heap, header, table)?;
-    Ok(Summary::of(place))
+    Ok(Summary::from(&*place))
 }

@@ -9,6 +9,7 @@ use crate::spot::Spot;
 use std::mem::swap;
 
 // Replaces the node of the term at the spot, if the term then has at most so many words; whether it has. It is written into the other room.
+// The answer is a bool, since a term that would be too long is no error: the step's answer is then Full.
 pub(crate) fn replace(term: &mut Room, next: &mut Room, spot: Spot, by: Made, most: usize) -> bool
     requires few { (length term.old ≤ 1024) × (most ≤ 1024) }
     requires within { (spot.outer ≤ spot.node) × (spot.node ≤ length term.old) }

@@ -9,6 +9,7 @@ use crate::stepper::Stepper;
 #[derive(Drop)]
 pub struct Machine<S: Stepper> {
     pub(crate) stepper: S,
+    // no words where nothing is held: an Option would give up the memory that was taken when the machine was made
     pub(crate) term: Room,
     // where the next term is written
     pub(crate) next: Room,

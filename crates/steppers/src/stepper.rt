@@ -21,6 +21,7 @@ pub trait Stepper {
     ghost label_of: { Self.Form → ℕ };
 
     // The form with this label and this count of children; none if the stepper lacks it.
+    // No TryFrom, since the contract is the stepper's: the pairs of its table.
     fn form(label: u32, count: u32) -> Option<Self::Form>
         ensures has { is_some result ≡ table.has label count }
         ensures named { IfSome result (λ form. label_of form ≡ label) };
@@ -29,7 +30,7 @@ pub trait Stepper {
     fn has_ended(seen: Seen) -> bool
         ensures { result ≡ table.over seen };
 
-    // What a step does at a form; the words begin with it.
+    // What a step does at a form; the words begin with it. A stepper says it by a match on its own forms, each in a line.
     fn act(form: Self::Form, node: &[u32], inputs: u32) -> Action
         ensures { ActsAt table.acts (label_of form) node.now inputs result };
 

@@ -8,6 +8,7 @@ pub(crate) fn first_stop<F: Fn(u32) -> Option<usize>>(words: &[u32], passed: F) 
     requires { F.IsAlwaysCallable passed }
     ensures { StopsAt (F.post passed) words.now result }
 {
+    // by hand, since each turn goes on by the size of what stands behind a word
     let mut at = 0;
     while at < words.len() {
         let Some(behind) = passed(words[at]) else {

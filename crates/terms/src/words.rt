@@ -94,6 +94,7 @@ fn form_node(label: u32, count: u32) -> Option<Node>
 }
 
 // The node that a word stands for; none where its label or payload has no meaning.
+// An Option, as of `char::from_u32`, and no TryFrom: there is nothing more to say of such a word.
 pub fn decode(word: u32) -> Option<Node>
     ensures { result ≡ node_of word }
 {
