@@ -10,6 +10,7 @@ mod steps;
 use lists::list::RuleList;
 use rounds::{Timed, time_rounds};
 use std::io;
+use std::rt::Clock;
 use terms::front::end;
 
 const ACCEPTANCES: u32 = 5_000;
@@ -17,7 +18,7 @@ const ACCEPTANCES: u32 = 5_000;
 const SEARCHES: u32 = 200_000;
 
 // How long the end finder takes on the words, in all its rounds. Each round has another last word, so that none is left out.
-fn time_end(rt: &HostRuntime, words: &mut Vec<u32>) -> io::Result<Timed> {
+fn time_end(rt: &(impl Clock + Print + AllocGlobal), words: &mut Vec<u32>) -> io::Result<Timed> {
     let mut found: usize = 0;
     let mut last: u32 = 0;
     let timed = time_rounds(rt, SEARCHES, || {
@@ -36,7 +37,11 @@ fn time_end(rt: &HostRuntime, words: &mut Vec<u32>) -> io::Result<Timed> {
     Ok(timed)
 }
 
-fn measure_end(rt: &HostRuntime, kind: &str, words: &mut Vec<u32>) -> io::Result<()> {
+fn measure_end(
+    rt: &(impl Clock + Print + AllocGlobal),
+    kind: &str,
+    words: &mut Vec<u32>,
+) -> io::Result<()> {
     let nanos = time_end(rt, words)?.nanos();
     let size = words.len();
     println!(rt;
@@ -44,7 +49,7 @@ fn measure_end(rt: &HostRuntime, kind: &str, words: &mut Vec<u32>) -> io::Result
     )
 }
 
-fn measure_accept(rt: &HostRuntime) -> io::Result<()> {
+fn measure_accept(rt: &(impl Clock + Print + AllocGlobal)) -> io::Result<()> {
     let heap = rt.alloc();
     let header = list_texts::HEADER.as_bytes();
     let table = list_texts::table(heap)?;
@@ -62,7 +67,7 @@ fn measure_accept(rt: &HostRuntime) -> io::Result<()> {
     println!(rt; "({accepted} of {ACCEPTANCES} acceptances)")
 }
 
-fn measure(rt: &HostRuntime) -> io::Result<()> {
+fn measure(rt: &(impl Clock + Print + AllocGlobal)) -> io::Result<()> {
     measure_accept(rt)?;
     measure_end(rt, "5 levels", &mut runs::shallow(rt.alloc())?)?;
     measure_end(rt, "1,000 levels", &mut runs::deep(rt.alloc())?)?;

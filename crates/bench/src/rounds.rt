@@ -1,5 +1,6 @@
 // Times rounds of one piece of work.
 use std::io;
+use std::rt::Clock;
 use std::time::{Duration, Instant};
 
 // How long the rounds took, and how many of them came out.
@@ -24,7 +25,7 @@ impl Timed {
 
 // Times so many rounds; each says whether it came out.
 pub fn time_rounds<F: FnMut() -> bool>(
-    rt: &HostRuntime,
+    rt: &impl Clock,
     rounds: u32,
     mut round: F,
 ) -> io::Result<Timed>

@@ -4,6 +4,7 @@ use crate::runs::push_many;
 use languages::language::Language;
 use std::alloc::{AllocError, Global};
 use std::io;
+use std::rt::Clock;
 use steppers::machine::Machine;
 use steppers::sequence::Sequence;
 use terms::word::Word;
@@ -45,7 +46,7 @@ fn nested(heap: Global) -> Result<Vec<u32>, AllocError> {
 }
 
 // A wait that isn't met is found behind all levels, and the term stays.
-fn measure_waits(rt: &HostRuntime, words: &[u32]) -> io::Result<()> {
+fn measure_waits(rt: &(impl Clock + Print + AllocGlobal), words: &[u32]) -> io::Result<()> {
     let mut machine = Machine::new(rt.alloc(), Sequence)?;
     if machine.load(words).is_err() {
         return println!(rt; "the term does not load");
@@ -59,7 +60,7 @@ fn measure_waits(rt: &HostRuntime, words: &[u32]) -> io::Result<()> {
 }
 
 // A load, and the step that writes the next term.
-fn measure_moves(rt: &HostRuntime, words: &[u32]) -> io::Result<()> {
+fn measure_moves(rt: &(impl Clock + Print + AllocGlobal), words: &[u32]) -> io::Result<()> {
     let mut machine = Machine::new(rt.alloc(), Sequence)?;
     let timed = time_rounds(rt, STEPS, || {
         machine.load(words).is_ok() && machine.step(1).is_ok()
@@ -71,7 +72,7 @@ fn measure_moves(rt: &HostRuntime, words: &[u32]) -> io::Result<()> {
     )
 }
 
-pub fn measure_steps(rt: &HostRuntime) -> io::Result<()> {
+pub fn measure_steps(rt: &(impl Clock + Print + AllocGlobal)) -> io::Result<()> {
     let words = nested(rt.alloc())?;
     measure_waits(rt, &words)?;
     measure_moves(rt, &words)

@@ -17,14 +17,20 @@ use case::Case;
 use runner::Runner;
 use std::io;
 
-fn run_cases(runner: &mut Runner<'_>, cases: &[Case<'_>]) -> io::Result<()> {
+fn run_cases<R: Print + AllocGlobal>(
+    runner: &mut Runner<'_, R>,
+    cases: &[Case<'_>],
+) -> io::Result<()> {
     for case in cases {
         runner.run(case)?;
     }
     Ok(())
 }
 
-fn run_built(runner: &mut Runner<'_>, cases: &[Built]) -> io::Result<()> {
+fn run_built<R: Print + AllocGlobal>(
+    runner: &mut Runner<'_, R>,
+    cases: &[Built],
+) -> io::Result<()> {
     for case in cases {
         let header = case.header.build(runner.rt.alloc())?;
         let table = case.table.build(runner.rt.alloc())?;

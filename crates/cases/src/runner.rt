@@ -7,8 +7,8 @@ use std::io;
 use tally::Tally;
 
 #[derive(Drop)]
-pub struct Runner<'a> {
-    pub rt: &'a HostRuntime,
+pub struct Runner<'a, R> {
+    pub rt: &'a R,
     place: RuleList,
     // the last accepted list, read into a new place
     accepted: RuleList,
@@ -25,8 +25,8 @@ fn answer(place: &mut RuleList, heap: Global, case: &Case<'_>) -> Answer {
     }
 }
 
-impl<'a> Runner<'a> {
-    pub fn new(rt: &'a HostRuntime) -> Runner<'a> {
+impl<'a, R: Print + AllocGlobal> Runner<'a, R> {
+    pub fn new(rt: &'a R) -> Runner<'a, R> {
         Runner {
             rt,
             place: RuleList::new(rt.alloc()),

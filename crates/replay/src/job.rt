@@ -4,7 +4,7 @@ use std::io;
 use std::io::{BufRead, BufReader};
 use std::str::from_utf8;
 
-// Reads all lines of the job from standard input.
+// Reads all lines of the job from standard input. It takes the host's own runtime, which alone has that as a stream of bytes.
 pub fn read_lines(rt: &HostRuntime) -> io::Result<Vec<Vec<u8>>> {
     let heap = rt.alloc();
     BufReader::new(heap, rt.stdin())?

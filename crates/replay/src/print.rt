@@ -7,20 +7,21 @@ use crate::verdict::{Summary, decide};
 use languages::calls::Answer;
 use languages::refusal::Refusal;
 use lists::list::RuleList;
+use std::rt::Files;
 use std::{fs, io};
 
 // What becomes of a job's lines, and where it is printed.
 #[derive(Drop)]
-pub struct Account<'a> {
-    pub rt: &'a HostRuntime,
+pub struct Account<'a, R> {
+    pub rt: &'a R,
     // the list that is in force
     pub place: RuleList,
     // the line of the job that was told last
     pub number: u64,
 }
 
-impl<'a> Account<'a> {
-    pub fn new(rt: &'a HostRuntime) -> Account<'a> {
+impl<'a, R: Files + Print + AllocGlobal> Account<'a, R> {
+    pub fn new(rt: &'a R) -> Account<'a, R> {
         Account {
             rt,
             place: RuleList::new(rt.alloc()),

@@ -6,21 +6,25 @@ use crate::print::Account;
 use languages::language::Language;
 use languages::run::run;
 use std::io;
+use std::rt::Files;
 use steppers::logic::Logic;
 use steppers::machine::Machine;
 use steppers::sequence::Sequence;
 use steppers::stepper::Stepper;
 
 // The lines before the first machine: their calls have no answers.
-fn run_without(account: &mut Account<'_>, lines: &[Vec<u8>]) -> io::Result<()> {
+fn run_without<R: Files + Print + AllocGlobal>(
+    account: &mut Account<'_, R>,
+    lines: &[Vec<u8>],
+) -> io::Result<()> {
     let heap = account.rt.alloc();
     let plan = plan_lines(heap, lines)?;
     account.print_entries(0, plan.entries, Vec::new(heap))
 }
 
 // All calls of the lines are one run of the language.
-fn run_with<L: Language + Drop>(
-    account: &mut Account<'_>,
+fn run_with<R: Files + Print + AllocGlobal, L: Language + Drop>(
+    account: &mut Account<'_, R>,
     mut language: L,
     capacity: usize,
     lines: &[Vec<u8>],
@@ -32,8 +36,8 @@ fn run_with<L: Language + Drop>(
 }
 
 // A new machine, which holds nothing, for the lines.
-fn run_machine<S: Stepper + Drop>(
-    account: &mut Account<'_>,
+fn run_machine<R: Files + Print + AllocGlobal, S: Stepper + Drop>(
+    account: &mut Account<'_, R>,
     stepper: S,
     lines: &[Vec<u8>],
 ) -> io::Result<()> {
@@ -43,7 +47,10 @@ fn run_machine<S: Stepper + Drop>(
 
 // A match, since each language has its own type, and a boxed one would be made here and handed on.
 // The lines of a stretch: the first names the core language of its machine, or there is none yet.
-pub fn run_stretch(account: &mut Account<'_>, lines: &[Vec<u8>]) -> io::Result<()> {
+pub fn run_stretch<R: Files + Print + AllocGlobal>(
+    account: &mut Account<'_, R>,
+    lines: &[Vec<u8>],
+) -> io::Result<()> {
     match lines.first().and_then(|line| core_of(line)) {
         None => run_without(account, lines),
         Some(Core::Logic) => run_machine(account, Logic, lines),

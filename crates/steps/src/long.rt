@@ -12,7 +12,7 @@ const LONGEST_BODY: usize = 510;
 
 const MOVED: Stepped = Stepped::Moved { effect: 0 };
 
-impl<L: Language + Drop> Trial<'_, L> {
+impl<R: Print + AllocGlobal, L: Language + Drop> Trial<'_, R, L> {
     // A repetition, once, of a body of LONGEST_BODY words moves, and of one word more is full and keeps its term.
     fn repetitions(&mut self) -> io::Result<()> {
         let body = chain(self.heap(), LONGEST_BODY)?;

@@ -17,7 +17,7 @@ use steppers::sequence::Sequence;
 use tally::Tally;
 use trial::Trial;
 
-fn run_logic(rt: &HostRuntime, tally: Tally) -> io::Result<Tally> {
+fn run_logic(rt: &(impl Print + AllocGlobal), tally: Tally) -> io::Result<Tally> {
     let mut trial = Trial {
         rt,
         language: Machine::new(rt.alloc(), Logic)?,
@@ -29,7 +29,7 @@ fn run_logic(rt: &HostRuntime, tally: Tally) -> io::Result<Tally> {
     Ok(trial.tally)
 }
 
-fn run_sequence(rt: &HostRuntime, tally: Tally) -> io::Result<Tally> {
+fn run_sequence(rt: &(impl Print + AllocGlobal), tally: Tally) -> io::Result<Tally> {
     let mut trial = Trial {
         rt,
         language: Machine::new(rt.alloc(), Sequence)?,

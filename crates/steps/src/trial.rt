@@ -14,13 +14,13 @@ const BLANK: u32 = 7;
 const BUFFER: usize = 1100;
 
 #[derive(Drop)]
-pub struct Trial<'a, L: Drop> {
-    pub rt: &'a HostRuntime,
+pub struct Trial<'a, R, L: Drop> {
+    pub rt: &'a R,
     pub language: L,
     pub tally: Tally,
 }
 
-impl<L: Language + Drop> Trial<'_, L> {
+impl<R: Print + AllocGlobal, L: Language + Drop> Trial<'_, R, L> {
     pub fn heap(&self) -> Global {
         self.rt.alloc()
     }
