@@ -52,9 +52,7 @@ fn head_from(numbers: &[u32]) -> Option<Head>
     let [layer, forms, rules] = *numbers else {
         return None;
     };
-    let Ok(layer) = Layer::try_from(layer) else {
-        return None;
-    };
+    let layer = Layer::try_from(layer).ok()?;
     if forms < 1 || forms > MOST_FORMS || rules < 1 || rules > MOST_RULES {
         return None;
     }

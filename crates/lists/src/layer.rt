@@ -72,6 +72,6 @@ impl Layer {
         ensures { result ≡ owned self label }
     {
         let first = self.first_label();
-        label >= first && label < first + LABELS
+        (first..first + LABELS).contains(&label)
     }
 }

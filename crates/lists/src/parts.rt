@@ -18,7 +18,7 @@ pub struct Rule {
 }
 
 // What the header's first line declares: the layer, how many forms, how many rules.
-#[derive(Drop)]
+#[derive(Clone, Copy)]
 pub(crate) struct Head {
     pub layer: Layer,
     pub forms: u32,

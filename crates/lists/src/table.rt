@@ -26,9 +26,7 @@ fn table_from(numbers: &[u32]) -> Option<(Layer, u32)>
     let [layer, rules] = *numbers else {
         return None;
     };
-    let Ok(layer) = Layer::try_from(layer) else {
-        return None;
-    };
+    let layer = Layer::try_from(layer).ok()?;
     if rules < 1 || rules > MOST_RULES {
         return None;
     }

@@ -22,10 +22,7 @@ use std::alloc::{AllocError, Global};
 fn is_over<S: Stepper>(term: &[u32]) -> bool
     ensures { OverAt S.Stepper.table term.now result }
 {
-    match look(term) {
-        Some(seen) => S::has_ended(seen),
-        None => false,
-    }
+    look(term).is_some_and(|seen| S::has_ended(seen))
 }
 
 // Writes the term into the buffer's first words.

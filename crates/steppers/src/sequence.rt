@@ -1,5 +1,5 @@
 // The sequence language.
-ghost use Rattle.std.specs.Prelude.{◌≡◌, ◌≤◌, Some, None, refl};
+ghost use Rattle.std.specs.Prelude.{◌≡◌, ◌≤◌, IfSome, refl};
 ghost use Rattle.steppers.specs.Sequence.{is_nop, nop_with, channel_of, goes_on, switches, awaits, repeats, sequence_label, sequence_table};
 ghost use Rattle.steppers.specs.SequenceLaws.{sequence_sound};
 
@@ -46,7 +46,7 @@ fn is_nop(seen: Seen) -> bool
 // A number that names an input or an output.
 fn channel(seen: Seen) -> Option<u32>
     ensures value { result ≡ channel_of seen }
-    ensures small { elim result [ Some n ↦ n ≤ 31 | None ↦ Unit {0} ] }
+    ensures small { IfSome result (λ n. n ≤ 31) }
 {
     match seen {
         Seen::Number(n) if n <= LAST_INPUT => Some(n),
