@@ -19,7 +19,7 @@ use Rattle.steppers.specs.declared.spot.Spot.{Spot}
 use Rattle.steppers.specs.Looks.{BeginsWith, seen}
 use Rattle.steppers.specs.Table.{Table, Sound}
 use Rattle.steppers.specs.Steps.{rule_of}
-use Rattle.steppers.specs.Loads.{lacking, holdable, expansion_of, meaning_of}
+use Rattle.steppers.specs.Loads.{lacking, holdable_by, expansion_of, meaning_of}
 use Rattle.steppers.specs.Places.{spot_of}
 use Rattle.steppers.specs.Placed.{OverAt, FoundIn}
 use Rattle.steppers.specs.Written.{Wordable, rewritten}
@@ -49,7 +49,7 @@ module _ (table : Table) where
     pub had : lacking table.has tree ≡ None
     pub begun : BeginsWith other tree
 
-  pub some_words : (ws other : List ℕ) → other ≡ ws → holdable table ws ≡ true → false ≡ eqb (length other) 0 → Holds ws other
+  pub some_words : (ws other : List ℕ) → other ≡ ws → holdable_by table ws ≡ true → false ≡ eqb (length other) 0 → Holds ws other
   some_words ws other same holds some = by_held (held_words table ws holds)
     where
       by_held : Held table ws → Holds ws other
@@ -74,10 +74,10 @@ Same r q = r ≡ q
 
 module _ (table : Table) (sound : Sound table) where
   -- a load of words that the stepper admits, and of others
-  pub loads_held : (words : List ℕ) (was : Option Tree) (x : Unit {0}) → Same (Ok x) (verdict (expansion_of table words)) → Loads (meaning_of table) words was (Ok (record { words = length words; uses = 0 })) (term_of words) × (holdable table words ≡ true) × (length words ≤ 1024)
+  pub loads_held : (words : List ℕ) (was : Option Tree) (x : Unit {0}) → Same (Ok x) (verdict (expansion_of table words)) → Loads (meaning_of table) words was (Ok (record { words = length words; uses = 0 })) (term_of words) × (holdable_by table words ≡ true) × (length words ≤ 1024)
   loads_held words was x h = by_expansion (expansion_of table words) refl h
     where
-      by_expansion : (r : Result Expanded Refusal) → expansion_of table words ≡ r → Same (Ok x) (verdict r) → Loads (meaning_of table) words was (Ok (record { words = length words; uses = 0 })) (term_of words) × (holdable table words ≡ true) × (length words ≤ 1024)
+      by_expansion : (r : Result Expanded Refusal) → expansion_of table words ≡ r → Same (Ok x) (verdict r) → Loads (meaning_of table) words was (Ok (record { words = length words; uses = 0 })) (term_of words) × (holdable_by table words ≡ true) × (length words ≤ 1024)
       by_expansion (Err refusal) v e = apart (cc)
       by_expansion (Ok e) v h =
           let l = loadable table words e v in
@@ -104,12 +104,12 @@ module _ (table : Table) (sound : Sound table) where
     pub few : length ws ≤ 1024
     pub within : length ws ≤ table.capacity
     pub had : lacking table.has tree ≡ None
-    pub holds : holdable table ws ≡ true
+    pub holds : holdable_by table ws ≡ true
     pub goes : table.over (seen tree) ≡ false
     pub found : FoundIn table ws image spot
 
   -- the words that were looked at are those that are held
-  pub ready : (ws other : List ℕ) (image : ℕ) (spot : Spot) → other ≡ ws → holdable table ws ≡ true → false ≡ eqb (length other) 0 → OverAt table other false → FoundIn table other image spot → Ready ws image spot
+  pub ready : (ws other : List ℕ) (image : ℕ) (spot : Spot) → other ≡ ws → holdable_by table ws ≡ true → false ≡ eqb (length other) 0 → OverAt table other false → FoundIn table other image spot → Ready ws image spot
   ready ws other image spot same holds some over found =
       let h = some_words table ws other same holds some in
       record {
@@ -134,7 +134,7 @@ module _ (table : Table) (sound : Sound table) where
       subst (λ o. StepGives (meaning_of table) image o (Ok s) is) (sym held) (subst (λ m. Steps table.capacity t m s is) (sym rule) steps)
 
   -- a step of a term that has ended
-  pub steps_ended : (ws other : List ℕ) (image : ℕ) → other ≡ ws → holdable table ws ≡ true → false ≡ eqb (length other) 0 → OverAt table other true → StepGives (meaning_of table) image (term_of ws) (Ok Ended) (term_of ws)
+  pub steps_ended : (ws other : List ℕ) (image : ℕ) → other ≡ ws → holdable_by table ws ≡ true → false ≡ eqb (length other) 0 → OverAt table other true → StepGives (meaning_of table) image (term_of ws) (Ok Ended) (term_of ws)
   steps_ended ws other image same holds some over =
       let h = some_words table ws other same holds some in
       let held = held_term ws h.tree h.formed h.spelled in
@@ -173,7 +173,7 @@ module _ (table : Table) (sound : Sound table) where
       pub wordable : Wordable by
       pub fitting : (is : List ℕ) (most : ℕ) → most ≡ table.capacity → true ≡ leb (length next_words) most → is ≡ next_words → StepGives (meaning_of table) image (term_of ws) (Ok (Moved effect)) (term_of is)
       pub full : (is : List ℕ) (most : ℕ) → most ≡ table.capacity → false ≡ leb (length next_words) most → is ≡ ws → StepGives (meaning_of table) image (term_of ws) (Ok Full) (term_of is)
-      pub held_after : (fits : Bool) (is : List ℕ) (most : ℕ) → most ≡ table.capacity → fits ≡ leb (length next_words) most → is ≡ cond fits next_words ws → holdable table is ≡ true
+      pub held_after : (fits : Bool) (is : List ℕ) (most : ℕ) → most ≡ table.capacity → fits ≡ leb (length next_words) most → is ≡ cond fits next_words ws → holdable_by table is ≡ true
 
     module _ (effect : ℕ) (by : Made) (h : spot.action ≡ action.Replace effect by) where
       abbrev p : Replaced table sound t image r.formed r.goes effect by
@@ -195,13 +195,13 @@ module _ (table : Table) (sound : Sound table) where
       size : (fits : Bool) (most : ℕ) → most ≡ table.capacity → fits ≡ leb (length next_words) most → leb (length (written next)) table.capacity ≡ fits
       size fits most capacity e = (λ j. leb (length (sym words j)) (sym capacity j)) ∙ sym e
 
-      holds_after : (fits : Bool) (is : List ℕ) (most : ℕ) → most ≡ table.capacity → fits ≡ leb (length next_words) most → is ≡ cond fits next_words ws → holdable table is ≡ true
+      holds_after : (fits : Bool) (is : List ℕ) (most : ℕ) → most ≡ table.capacity → fits ≡ leb (length next_words) most → is ≡ cond fits next_words ws → holdable_by table is ≡ true
       holds_after true is most capacity e same =
           let few = leb-true (length (written next)) table.capacity (size true most capacity e) in
           let kept = next_kept table sound t next image effect r.formed p.rule in
           let loads = loads_term table next kept.0 few (kept.1 r.had) in
           loaded_holdable table is _ (ap (expansion_of table) (same ∙ words) ∙ loads)
-      holds_after false is most capacity e same = ap (holdable table) same ∙ r.holds
+      holds_after false is most capacity e same = ap (holdable_by table) same ∙ r.holds
 
       pub replaces : Replaces effect by next_words
       replaces = record {

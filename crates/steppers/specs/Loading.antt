@@ -19,7 +19,7 @@ use Rattle.languages.specs.Calls.{Expands}
 use Rattle.languages.specs.Laws.{Laws}
 use Rattle.languages.proofs.Asked.{apart}
 use Rattle.steppers.specs.Table.{Table, Sound}
-use Rattle.steppers.specs.Loads.{lacking, itself, expansion_of, holdable, meaning_of}
+use Rattle.steppers.specs.Loads.{lacking, itself, expansion_of, holdable_by, meaning_of}
 use Rattle.steppers.specs.Marking.{rule-bare}
 use Rattle.steppers.specs.Closing.{next_kept}
 
@@ -137,18 +137,18 @@ module _ (table : Table) where
   ok_loads words (Ok e) v h = loads e v
   ok_loads words (Err refusal) v h = apart (cc)
 
-  pub held_words : (words : List ℕ) → holdable table words ≡ true → Held words
-  unfolding holdable
+  pub held_words : (words : List ℕ) → holdable_by table words ≡ true → Held words
+  unfolding holdable_by
   held_words [] h = empty refl
   held_words (w ∷ ws) h = ok_loads (w ∷ ws) (expansion_of table (w ∷ ws)) refl h
 
   -- what the stepper loads may be held
-  pub loaded_holdable : (words : List ℕ) (e : Expanded) → expansion_of table words ≡ Ok e → holdable table words ≡ true
-  unfolding holdable
+  pub loaded_holdable : (words : List ℕ) (e : Expanded) → expansion_of table words ≡ Ok e → holdable_by table words ≡ true
+  unfolding holdable_by
   loaded_holdable [] e h = refl
   loaded_holdable (w ∷ ws) e h = ap is_ok h
 
   -- nothing may be held
-  pub holdable_none : (words : List ℕ) → words ≡ [] → holdable table words ≡ true
-  unfolding holdable
-  holdable_none words e = ap (holdable table) e
+  pub holdable_none : (words : List ℕ) → words ≡ [] → holdable_by table words ≡ true
+  unfolding holdable_by
+  holdable_none words e = ap (holdable_by table) e

@@ -41,10 +41,10 @@ expansion_of table words =
     cond (nat_le (length words) table.capacity) (elim (wholly false words) [ Err b ↦ Err (NoTerm 0 b.place) | Ok x ↦ itself table.has (term_of words) ]) (Err (TooLong 0 table.capacity))
 
 -- no words, or words that the stepper loads
-unfoldable pub holdable : Table → List ℕ → Bool
+unfoldable pub holdable_by : Table → List ℕ → Bool
 unfolding expansion_of
-holdable table [] = true
-holdable table (w ∷ ws) = is_ok (expansion_of table (w ∷ ws))
+holdable_by table [] = true
+holdable_by table (w ∷ ws) = is_ok (expansion_of table (w ∷ ws))
 
 -- the meaning of the machine that holds this stepper's term
 abbrev pub meaning_of : Table → Meaning

@@ -5,20 +5,11 @@ use Rattle.steppers.specs.declared.action.Seen.TheVariants as seen
 use Rattle.steppers.specs.declared.action.Made.TheVariants as made
 use Rattle.steppers.specs.declared.action.Action.{Action}
 use Rattle.steppers.specs.declared.action.Action.TheVariants.{Child, Replace, Stuck}
-use Rattle.steppers.specs.declared.logic.LogicForm.{LogicForm}
-use Rattle.steppers.specs.declared.logic.LogicForm.TheVariants.{In, Not, If, Add}
 use Rattle.steppers.specs.Looks.{seen_at}
 use Rattle.steppers.specs.Table.{Table}
 
 abbrev pub logic_has : ℕ → ℕ → Bool
 logic_has l n = (l == 16 && n == 1) || ((l == 17 && n == 1) || ((l == 20 && n == 3) || (l == 21 && n == 2)))
-
--- the label of each form
-abbrev pub logic_label : LogicForm → ℕ
-logic_label In = 16
-logic_label Not = 17
-logic_label If = 20
-logic_label Add = 21
 
 -- bit n of the image is input n
 abbrev pub bit : ℕ → ℕ → ℕ

@@ -5,23 +5,12 @@ use Rattle.steppers.specs.declared.action.Seen.TheVariants as seen
 use Rattle.steppers.specs.declared.action.Made.TheVariants as made
 use Rattle.steppers.specs.declared.action.Action.{Action}
 use Rattle.steppers.specs.declared.action.Action.TheVariants.{Child, Replace, Wait, Stuck}
-use Rattle.steppers.specs.declared.sequence.SequenceForm.{SequenceForm}
-use Rattle.steppers.specs.declared.sequence.SequenceForm.TheVariants.{Seq, Set, Clear, Await, Repeat, Nop}
 use Rattle.steppers.specs.Looks.{seen_at}
 use Rattle.steppers.specs.Table.{Table}
 use Rattle.steppers.specs.Logic.{bit}
 
 abbrev pub sequence_has : ℕ → ℕ → Bool
 sequence_has l n = (l == 32 && n == 2) || ((l == 33 && n == 1) || ((l == 34 && n == 1) || ((l == 35 && n == 1) || ((l == 36 && n == 2) || (l == 38 && n == 0)))))
-
--- the label of each form
-abbrev pub sequence_label : SequenceForm → ℕ
-sequence_label Seq = 32
-sequence_label Set = 33
-sequence_label Clear = 34
-sequence_label Await = 35
-sequence_label Repeat = 36
-sequence_label Nop = 38
 
 -- NOP
 abbrev pub is_nop : Seen → Bool

@@ -14,7 +14,13 @@ fn passed_by<S: Stepper>(word: u32) -> Option<usize>
     ensures { result ≡ passed_by S.Stepper.table.has (node_of word) }
 {
     match decode(word) {
-        Some(Node::Form { label, count }) => S::form(label, count).map(|_| 0),
+        Some(Node::Form { label, count }) => {
+            if S::has_form(label, count) {
+                Some(0)
+            } else {
+                None
+            }
+        }
         Some(Node::Head { dropped, .. }) => Some(dropped as usize),
         _ => Some(0),
     }

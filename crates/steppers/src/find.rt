@@ -1,5 +1,5 @@
 // Finds where in a term its step acts.
-ghost use Rattle.std.specs.Prelude.{◌≡◌, option_map};
+ghost use Rattle.std.specs.Prelude.{◌≡◌};
 ghost use Rattle.terms.specs.Words.{node_of};
 ghost use Rattle.steppers.specs.Placed.{own_label, ActionOf, FoundIn};
 
@@ -9,12 +9,12 @@ use crate::spot::Spot;
 use crate::stepper::Stepper;
 use terms::words::{Node, decode};
 
-// The form that a word begins, if the stepper has it.
-fn own_form<S: Stepper>(word: u32) -> Option<S::Form>
-    ensures { option_map S.Stepper.label_of result ≡ own_label S.Stepper.table.has (node_of word) }
+// The label of a form that the stepper has.
+fn own_label<S: Stepper>(word: u32) -> Option<u32>
+    ensures { result ≡ own_label S.Stepper.table.has (node_of word) }
 {
     match decode(word)? {
-        Node::Form { label, count } => S::form(label, count),
+        Node::Form { label, count } if S::has_form(label, count) => Some(label),
         _ => None,
     }
 }
@@ -26,10 +26,10 @@ fn act_at<S: Stepper>(node: &[u32], inputs: u32) -> Action
     let Some(word) = node.first() else {
         return Action::Stuck;
     };
-    let Some(form) = own_form::<S>(*word) else {
+    let Some(label) = own_label::<S>(*word) else {
         return Action::Stuck;
     };
-    S::act(form, node, inputs)
+    S::act(label, node, inputs)
 }
 
 // The spot at which a step of the term acts.

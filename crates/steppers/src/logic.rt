@@ -1,6 +1,6 @@
 // The logic language.
 ghost use Rattle.std.specs.Prelude.{◌≡◌, ◌≤◌, refl};
-ghost use Rattle.steppers.specs.Logic.{bit, gives, reads, negates, chooses, adds, logic_label, logic_table};
+ghost use Rattle.steppers.specs.Logic.{bit, gives, reads, negates, chooses, adds, logic_table};
 ghost use Rattle.std.proofs.Common.{rules};
 
 use crate::action::{Action, Made, Seen};
@@ -78,57 +78,40 @@ fn add(a: u32, second: Option<Seen>) -> Action
 }
 
 // IN 16:1, NOT 17:1, IF 20:3, ADD 21:2.
-#[derive(Clone, Copy, Debug, PartialEq, Eq)]
-pub enum LogicForm {
-    In,
-    Not,
-    If,
-    Add,
-}
-
 #[derive(Clone, Copy)]
 pub struct Logic;
 
 impl Stepper for Logic {
-    type Form = LogicForm;
-
     const CAPACITY: usize = 1024;
 
     ghost CAPACITY = { 1024 };
 
     ghost table = { logic_table };
 
-    ghost label_of = { logic_label };
-
     ghost same_capacity = { refl };
 
     ghost sound = { Prim.search rules };
 
-    fn form(label: u32, count: u32) -> Option<LogicForm> {
-        match (label, count) {
-            (IN, 1) => Some(LogicForm::In),
-            (NOT, 1) => Some(LogicForm::Not),
-            (IF, 3) => Some(LogicForm::If),
-            (ADD, 2) => Some(LogicForm::Add),
-            _ => None,
-        }
+    fn has_form(label: u32, count: u32) -> bool {
+        matches!((label, count), (IN, 1) | (NOT, 1) | (IF, 3) | (ADD, 2))
     }
 
     fn has_ended(seen: Seen) -> bool {
         matches!(seen, Seen::Number(_))
     }
 
-    fn act(form: LogicForm, node: &[u32], inputs: u32) -> Action {
+    fn act(label: u32, node: &[u32], inputs: u32) -> Action {
         let first = match look_at_child(node, 0) {
             Some(Seen::Number(value)) => value,
             Some(Seen::Form(_)) => return Action::Child(0),
             None => return Action::Stuck,
         };
-        match form {
-            LogicForm::In => read(first, inputs),
-            LogicForm::Not => negate(first),
-            LogicForm::If => choose(first),
-            LogicForm::Add => add(first, look_at_child(node, 1)),
+        match label {
+            IN => read(first, inputs),
+            NOT => negate(first),
+            IF => choose(first),
+            ADD => add(first, look_at_child(node, 1)),
+            _ => Action::Stuck,
         }
     }
 }

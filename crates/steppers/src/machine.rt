@@ -1,6 +1,6 @@
 // The machine: one term of a stepper, and the memory for the next.
 ghost use Rattle.std.specs.Prelude.{◌≡◌, true};
-ghost use Rattle.steppers.specs.Loads.{holdable};
+ghost use Rattle.steppers.specs.Loads.{holdable_by};
 
 use crate::room::Room;
 use crate::stepper::Stepper;
@@ -13,5 +13,5 @@ pub struct Machine<S: Stepper> {
     pub(crate) term: Room,
     // where the next term is written
     pub(crate) next: Room,
-    ghost holds: { holdable S.Stepper.table term ≡ true },
+    ghost holds: { holdable_by S.Stepper.table term ≡ true },
 }

@@ -1,6 +1,6 @@
 // The sequence language.
 ghost use Rattle.std.specs.Prelude.{◌≡◌, ◌≤◌, IfSome, refl};
-ghost use Rattle.steppers.specs.Sequence.{is_nop, nop_with, channel_of, goes_on, switches, awaits, repeats, sequence_label, sequence_table};
+ghost use Rattle.steppers.specs.Sequence.{is_nop, nop_with, channel_of, goes_on, switches, awaits, repeats, sequence_table};
 ghost use Rattle.steppers.specs.SequenceLaws.{sequence_sound};
 
 use crate::action::{Action, Made, Seen};
@@ -54,7 +54,6 @@ fn channel(seen: Seen) -> Option<u32>
     }
 }
 
-// SET and CLEAR: the effect is `first` and the number of an output.
 fn switch(first: u32, seen: Seen) -> Action
     requires { first ≤ 200 }
     ensures { result ≡ switches first seen }
@@ -106,61 +105,42 @@ fn go_on(seen: Seen) -> Action
 }
 
 // SEQ 32:2, SET 33:1, CLEAR 34:1, AWAIT 35:1, REPEAT 36:2, NOP 38:0.
-#[derive(Clone, Copy, Debug, PartialEq, Eq)]
-pub enum SequenceForm {
-    Seq,
-    Set,
-    Clear,
-    Await,
-    Repeat,
-    Nop,
-}
-
 #[derive(Clone, Copy)]
 pub struct Sequence;
 
 impl Stepper for Sequence {
-    type Form = SequenceForm;
-
     const CAPACITY: usize = 1024;
 
     ghost CAPACITY = { 1024 };
 
     ghost table = { sequence_table };
 
-    ghost label_of = { sequence_label };
-
     ghost same_capacity = { refl };
 
     ghost sound = { sequence_sound };
 
-    fn form(label: u32, count: u32) -> Option<SequenceForm> {
-        match (label, count) {
-            (SEQ, 2) => Some(SequenceForm::Seq),
-            (SET, 1) => Some(SequenceForm::Set),
-            (CLEAR, 1) => Some(SequenceForm::Clear),
-            (AWAIT, 1) => Some(SequenceForm::Await),
-            (REPEAT, 2) => Some(SequenceForm::Repeat),
-            (NOP, 0) => Some(SequenceForm::Nop),
-            _ => None,
-        }
+    fn has_form(label: u32, count: u32) -> bool {
+        matches!(
+            (label, count),
+            (SEQ, 2) | (SET, 1) | (CLEAR, 1) | (AWAIT, 1) | (REPEAT, 2) | (NOP, 0)
+        )
     }
 
     fn has_ended(seen: Seen) -> bool {
         is_nop(seen)
     }
 
-    fn act(form: SequenceForm, node: &[u32], inputs: u32) -> Action {
+    fn act(label: u32, node: &[u32], inputs: u32) -> Action {
         let Some(first) = look_at_child(node, 0) else {
             return Action::Stuck;
         };
-        match form {
-            SequenceForm::Seq => go_on(first),
-            SequenceForm::Set => switch(SETS, first),
-            SequenceForm::Clear => switch(CLEARS, first),
-            SequenceForm::Await => wait(first, inputs),
-            SequenceForm::Repeat => repeat(first),
-            SequenceForm::Nop => Action::Stuck,
+        match label {
+            SEQ => go_on(first),
+            SET => switch(SETS, first),
+            CLEAR => switch(CLEARS, first),
+            AWAIT => wait(first, inputs),
+            REPEAT => repeat(first),
+            _ => Action::Stuck,
         }
     }
 }
