@@ -7,7 +7,7 @@ use std::marker::Model;
 use terms::words::{FIRST_LAYER, is_layer};
 
 // Layer k owns LABELS labels, from LABELS + LABELS × k on.
-const LABELS: u32 = 32;
+pub const LABELS: u32 = 32;
 
 // A layer, by its number.
 #[derive(Clone, Copy, PartialEq, Eq)]

@@ -1,4 +1,5 @@
 // The parts of a rule list, as plain data.
+pub use crate::layer::LABELS;
 use crate::layer::Layer;
 
 pub const MOST_RULES: u32 = 32;

@@ -10,7 +10,7 @@ use crate::parts::{Form, Rule};
 use terms::front::is_tree;
 use terms::words::{LABEL_UNIT, Node, decode};
 
-// Two tests of one pattern each: a function that takes the pattern would be a macro.
+// Beside `is_variable`, since a pattern can't be a parameter.
 fn is_atom(word: u32) -> bool
     ensures { result ≡ is_atom (node_of word) }
 {
@@ -183,8 +183,7 @@ pub(crate) fn is_linear(rule: &Rule) -> bool
 pub(crate) fn is_for(form: Form, rule: &Rule) -> bool
     ensures { result ≡ is_for form (sides_of rule.now) }
 {
-    match rule.left.first() {
-        Some(word) => is_word_of(form, *word),
-        None => false,
-    }
+    rule.left
+        .first()
+        .is_some_and(|word| is_word_of(form, *word))
 }

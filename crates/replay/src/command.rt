@@ -55,7 +55,7 @@ pub(crate) fn is_blank(line: &str) -> bool
     next_word(line).is_none()
 }
 
-// The two words of a line that has two. One word has its own function: over arrays of any length the words would be gathered first.
+// The two words of a line that has two. Not one function with that for one word: for any number, the words would first be gathered.
 fn two_words(line: &str) -> Option<(&str, &str)>
     ensures { TwoOf (words_of line.now) result }
 {
@@ -87,7 +87,7 @@ fn parse_held(words: &str) -> Result<Command<'_>, Misread<'_>>
     }
 }
 
-// The command of a line. A match says each command in a line; a table of functions would be no plainer.
+// The command of a line: a match on its first word, which has a line for each command.
 pub fn parse(line: &str) -> Result<Command<'_>, Misread<'_>>
     ensures { Asks (words_of line.now) result }
 {

@@ -8,7 +8,7 @@ use languages::language::SHOWN_WORDS;
 use std::fmt;
 use texts::number::number;
 
-const LAST_IMAGE: u32 = 4_294_967_295;
+const LAST_IMAGE: u32 = u32::MAX;
 // The longest buffer that the program lends for a show.
 const LONGEST_BUFFER: u32 = 4096;
 
@@ -32,7 +32,7 @@ pub enum MachineCommand<'a> {
     Show { length: usize },
 }
 
-// Why a line that begins like a command for the machine is none. Not one enum with `Misread`, so that each has only the cases that its function answers.
+// Why a line that begins like a command for the machine is none. It is not one enum with `Misread`: each has only the cases that its own function answers.
 #[derive(Clone, Copy)]
 pub enum MachineMisread<'a> {
     WrongWords { usage: &'static str },
@@ -108,7 +108,7 @@ fn parse_show(words: &str) -> Result<MachineCommand<'_>, MachineMisread<'_>>
     })
 }
 
-// What a line asks of the machine; none for any other line. A match, as in `parse`.
+// What a line asks of the machine; none for any other line. Each command has a line of the match.
 pub fn parse_machine(line: &str) -> Option<Result<MachineCommand<'_>, MachineMisread<'_>>>
     ensures { MatchOption result (NamesNoMachineCommand (words_of line.now)) (AsksMachine (words_of line.now)) }
 {

@@ -12,6 +12,9 @@ use steppers::machine::Machine;
 use steppers::sequence::Sequence;
 use steppers::stepper::Stepper;
 
+// Before the first machine there is no line that tells a capacity.
+const NO_CAPACITY: usize = 0;
+
 // The lines before the first machine: their calls have no answers.
 fn run_without<R: Files + Print + AllocGlobal>(
     account: &mut Account<'_, R>,
@@ -19,7 +22,7 @@ fn run_without<R: Files + Print + AllocGlobal>(
 ) -> io::Result<()> {
     let heap = account.rt.alloc();
     let plan = plan_lines(heap, lines)?;
-    account.print_entries(0, plan.entries, Vec::new(heap))
+    account.print_entries(NO_CAPACITY, plan.entries, Vec::new(heap))
 }
 
 // All calls of the lines are one run of the language.
@@ -45,8 +48,7 @@ fn run_machine<R: Files + Print + AllocGlobal, S: Stepper + Drop>(
     run_with(account, machine, S::CAPACITY, lines)
 }
 
-// A match, since each language has its own type, and a boxed one would be made here and handed on.
-// The lines of a stretch: the first names the core language of its machine, or there is none yet.
+// The lines of a stretch, a machine of its own type for each core language: the first names the core language of its machine, or there is none yet.
 pub fn run_stretch<R: Files + Print + AllocGlobal>(
     account: &mut Account<'_, R>,
     lines: &[Vec<u8>],

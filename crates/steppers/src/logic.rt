@@ -6,6 +6,7 @@ ghost use Rattle.std.proofs.Common.{rules};
 use crate::action::{Action, Made, Seen};
 use crate::look::look_at_child;
 use crate::stepper::Stepper;
+use terms::word::LAST_PAYLOAD;
 
 const IN: u32 = 16;
 
@@ -17,7 +18,7 @@ const ADD: u32 = 21;
 // Inputs are numbered 0 to LAST_INPUT, one for each bit of an image.
 pub(crate) const LAST_INPUT: u32 = 31;
 // Numbers are below this.
-const NUMBERS: u64 = 16_777_216;
+const NUMBERS: u64 = LAST_PAYLOAD as u64 + 1;
 
 // The children of IF(a, b, c).
 const WHEN_TRUE: usize = 1;

@@ -1,4 +1,4 @@
-// One word of a term: its label and payload, and the node that it stands for.
+// The node that a word of a term stands for.
 ghost use Rattle.std.specs.Prelude.{◌≡◌, ◌+◌};
 ghost use Rattle.terms.specs.Words.{is_layer, node_of, arity_of, form_at, head_at};
 
@@ -94,7 +94,7 @@ fn form_node(label: u32, count: u32) -> Option<Node>
 }
 
 // The node that a word stands for; none where its label or payload has no meaning.
-// An Option, as of `char::from_u32`, and no TryFrom: there is nothing more to say of such a word.
+// An Option, as that of `char::from_u32`, and no TryFrom: of such a word there is nothing more to say.
 pub fn decode(word: u32) -> Option<Node>
     ensures { result ≡ node_of word }
 {

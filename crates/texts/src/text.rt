@@ -40,11 +40,11 @@ impl<'a> Piece<'a> {
     }
 }
 
-// Cuts the first piece off a text.
-fn cut(text: &[u8], separator: Separator) -> Piece<'_>
-    ensures { FirstPiece (byte_of separator) text.now result }
+// Cuts the first piece off a text, up to the end of its first line.
+fn cut(text: &[u8]) -> Piece<'_>
+    ensures { FirstPiece 10 text.now result }
 {
-    match text.iter().position(|byte| separator.is_at(*byte)) {
+    match text.iter().position(|byte| Separator::LineEnd.is_at(*byte)) {
         Some(size) => Piece {
             bytes: &text[..size],
             behind: Some(&text[size + 1..]),
@@ -61,7 +61,7 @@ fn cut_line(text: &[u8]) -> Piece<'_>
     ensures line { 0 < length text.now → NextLine text.now (Some result) }
     ensures none { length text.now ≡ 0 → NextLine text.now None }
 {
-    cut(text, Separator::LineEnd)
+    cut(text)
 }
 
 // The next line of a text; none at its end.
