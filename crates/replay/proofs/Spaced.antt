@@ -1,5 +1,5 @@
 -- The words of a line, by its first space.
-use Rattle.std.proofs.Common.{◌≡◌, ℕ, ◌<◌, Bool, true, false, List, [], ◌∷◌, ◌++◌, length, get_or, drop, Some, None, sym, refl, ap, ◌∙◌, subst, arith, lit<}
+use Rattle.std.proofs.Common.{◌≡◌, ℕ, ◌<◌, Bool, true, false, List, [], ◌∷◌, ◌++◌, length, get_or, drop, Some, None, sym, refl, ap, ◌∙◌, arith, lit<}
 use lib.Utf8.{encode}
 use Rattle.std.specs.Str.Pattern.{FindsCharPrefix, CutsPrefixes, IsFullyTrimmed}
 use Rattle.std.proofs.lemmas.Str.Pattern.{drop_at_char}
@@ -50,24 +50,6 @@ unfolding words_of filled_of pieces
 words_none [] e = refl
 words_none (b ∷ bs) e = absurd (omega (arith, e))
 
-pub no_words : (words : List (List ℕ)) → length words ≡ 0 → words ≡ []
-no_words [] e = refl
-no_words (w ∷ ws) e = absurd (omega (arith, e))
-
-pub one_word : (words : List (List ℕ)) (a : List ℕ) (behind : List (List ℕ)) → words ≡ a ∷ behind → length behind ≡ 0 → words ≡ a ∷ []
-one_word words a behind e none = e ∙ ap (λ (ws : List (List ℕ)). a ∷ ws) (no_words behind none)
-
-pub two_words : (words : List (List ℕ)) (a b : List ℕ) (second behind : List (List ℕ)) → words ≡ a ∷ second → second ≡ b ∷ behind → length behind ≡ 0 → words ≡ a ∷ b ∷ []
-two_words words a b second behind e f none = e ∙ ap (λ (ws : List (List ℕ)). a ∷ ws) (one_word second b behind f none)
-
--- what a line asks for whose first word is known
-pub asks_of : {R : Type 0} (AsksFor : List (List ℕ) → R → Type 0) (words : List (List ℕ)) (name known : List ℕ) (ws : List (List ℕ)) (r : R) → words ≡ name ∷ ws → name ≡ known → AsksFor (known ∷ ws) r → AsksFor words r
-asks_of AsksFor words name known ws r e is asks =
-    subst (λ (l : List (List ℕ)). AsksFor l r) (sym (e ∙ ap (λ (w : List ℕ). w ∷ ws) is)) asks
-
 abbrev IsFalse : Bool → Type 0
 IsFalse false = Unit {0}
 IsFalse true = ⊥
-
-pub false≢true : false ≡ true → ⊥
-false≢true e = subst IsFalse e tt

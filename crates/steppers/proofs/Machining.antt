@@ -1,12 +1,12 @@
 -- What a machine answers, by the words that it holds.
-use Rattle.std.proofs.Common.{◌≡◌, ◌⊎◌, ℕ, ◌<◌, ◌≤◌, Bool, true, false, cond, eqb, leb, List, [], ◌++◌, length, drop, Some, None, Ok, Err, Option, Result, sym, refl, ap, ◌∙◌, subst, ⊎_elim, arith}
+use Rattle.std.proofs.Common.{◌≡◌, ◌⊎◌, ℕ, ◌≤◌, Bool, true, false, cond, eqb, leb, List, [], ◌++◌, length, drop, Some, None, Ok, Err, Option, Result, sym, refl, ap, ◌∙◌, subst, ⊎_elim, arith}
 use Rattle.std.specs.Result.{result_map_both}
 use Rattle.std.proofs.lemmas.List.{append-nil, nil_from_length}
-use Rattle.std.proofs.lemmas.Bool.{eqb-true, eqb-false, leb-true, le-leb, lt-leb}
+use Rattle.std.proofs.lemmas.Bool.{eqb-true, eqb-false, leb-true, le-leb}
 use Rattle.terms.specs.Trees.{Tree, written, read, WellFormed, term_of}
 use Rattle.terms.proofs.Readings.{term_read}
 use Rattle.languages.specs.declared.refusal.Refusal.{Refusal}
-use Rattle.languages.specs.declared.refusal.Refusal.TheVariants.{NothingHeld, ShortBuffer}
+use Rattle.languages.specs.declared.refusal.Refusal.TheVariants.{NothingHeld}
 use Rattle.languages.specs.declared.answers.Stepped.{Stepped}
 use Rattle.languages.specs.declared.answers.Stepped.TheVariants.{Moved, Ended, Stuck, Full}
 use Rattle.languages.specs.Meaning.{Expanded, Move, moved, ended, stuck}
@@ -88,13 +88,6 @@ module _ (table : Table) (sound : Sound table) where
           let answer : Ok (record { words = length words; uses = 0 }) ≡ Ok (record { words = length (written e.term); uses = e.uses }) = cc in
           let held = held_term words e.term l.formed l.spelled in
           (rw (v, Loads) (answer, held), loaded_holdable table words e v, few)
-
-  pub loads_refused : (words : List ℕ) (was : Option Tree) (refusal : Refusal) → Same (Err refusal) (verdict (expansion_of table words)) → Loads (meaning_of table) words was (Err refusal) was
-  loads_refused words was refusal h = by_expansion (expansion_of table words) refl h
-    where
-      by_expansion : (r : Result Expanded Refusal) → expansion_of table words ≡ r → Same (Err refusal) (verdict r) → Loads (meaning_of table) words was (Err refusal) was
-      by_expansion (Ok e) v h = apart (cc)
-      by_expansion (Err other) v h = let same : refusal ≡ other = cc in rw (v, Loads) (ap Err same, refl)
 
   -- a term is held that has not ended, and a spot was found in it
   pub record Ready (ws : List ℕ) (image : ℕ) (spot : Spot) : Type 0 where
@@ -213,9 +206,6 @@ module _ (table : Table) (sound : Sound table) where
 
 -- a show: the term held, or its refusals
 module _ (table : Table) (sound : Sound table) where
-  pub shows_short : (held : Option Tree) (buffer : List ℕ) → length buffer < 1024 → BufferShowGives (meaning_of table) held buffer (Err (ShortBuffer 0 (length buffer))) buffer
-  shows_short held buffer short = let long = lt-leb 1024 (length buffer) short in rw (long, BufferShowGives) (refl, refl)
-
   pub shows_nothing_held : (ws buffer : List ℕ) → ws ≡ [] → 1024 ≤ length buffer → BufferShowGives (meaning_of table) (term_of ws) buffer (Err NothingHeld) buffer
   shows_nothing_held ws buffer e long =
       let enough = le-leb 1024 (length buffer) long in

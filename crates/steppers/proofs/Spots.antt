@@ -1,5 +1,5 @@
 -- The way to the node at which a step acts: what is done at a node, and in which child the way goes on.
-use Rattle.std.proofs.Common.{◌≡◌, ℕ, zero, suc, ◌+◌, ◌<◌, ◌≤◌, Bool, true, false, cond, List, [], length, get_or, drop, Some, None, Option, sym, refl, ap, ◌∙◌, subst, append-nil, add-zero, add_assoc, arith}
+use Rattle.std.proofs.Common.{◌≡◌, ℕ, zero, suc, ◌+◌, ◌<◌, ◌≤◌, Bool, true, false, cond, List, length, get_or, drop, Some, None, Option, sym, refl, ap, ◌∙◌, subst, add-zero, add_assoc, arith}
 use Rattle.std.proofs.lemmas.List.{drop-drop, drop_more, drop_all}
 use Rattle.terms.specs.Words.{node_of}
 use Rattle.terms.specs.Trees.{Tree, Trees, atom, variable, body, head, form, none, more, count, written, written_all, nth, WellFormed}
@@ -140,10 +140,6 @@ stepped table (form l ts) image i e = record { label = l; children = ts; is = re
 abbrev pub Spotted : Table → List ℕ → ℕ → ℕ → Type 0
 Spotted table words image outer =
     (t : Tree) → WellFormed t → words ≡ written t → (u : Tree) × BeginsWith (drop outer words) u × (spot_of table t image 0 0 ≡ spot_of table u image outer outer)
-
--- at first the way stands at the term itself
-pub spotted_none : (table : Table) (words : List ℕ) (image : ℕ) → Spotted table words image 0
-spotted_none table words image t h e = (t, (h, ([], e ∙ sym (append-nil (written t)))), refl)
 
 module _ (table : Table) (words : List ℕ) (image outer : ℕ) (p : Spotted table words image outer) (n : ℕ) (inside : InsideOf (drop outer words) n) (a : Action) (act : ActionOf table (drop (outer + n) words) image a) where
   -- the node inside the marks there

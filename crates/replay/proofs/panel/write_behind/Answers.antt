@@ -1,7 +1,5 @@
 use Rattle.std.proofs.Common.{ℕ, List, ◌++◌, codes, refl, ap}
 use Rattle.std.proofs.Output.{has_written_append, has_written_of_eq}
-use Rattle.std.proofs.lemmas.List.{take_all}
-use Rattle.replay.specs.Panel.{behind_text}
 use Rattle.replay.proofs.Shown.{word_is, none_behind, behind_next}
 use Rattle.replay.proofs.panel.write_behind.Goals as goal
 
@@ -13,7 +11,3 @@ loop-word-preserved g c plain =
     has_written_of_eq g.W.Write.write_str_gives _ _ _ _ (behind_next _ _ c.loop-word-test.true)
     (has_written_append g.W.Write.write_str_gives _ _ c.loop-word.f _ _ (c.loop-word.invariant plain)
     (has_written_of_eq g.W.Write.write_str_gives _ _ _ _ (ap (λ (t : List ℕ). codes " " ++ t) (word_is _ _ _ c.from-word.ensures.0 c.from-word.ensures.1)) (c.in_ok-write.ensures.writes (c.loop-word.invariant plain).plain refl)))
-
-pub returns : goal.returns
-returns g c plain ok =
-    has_written_of_eq g.W.Write.write_str_gives _ _ _ _ (ap behind_text (take_all _ _ c.loop-word-test.false)) (c.loop-word.invariant plain)
