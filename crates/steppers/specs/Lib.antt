@@ -5,6 +5,7 @@ pub mod Loads
 pub mod Places
 pub mod Placed
 pub mod Written
+pub mod Replaced
 pub mod Walks
 pub mod Logic
 pub mod Sequence

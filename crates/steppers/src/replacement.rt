@@ -1,7 +1,7 @@
 // A node of a term, and what a step puts in its place.
 ghost use Rattle.std.specs.Prelude.{◌≡◌, ◌+◌, ◌*◌, ◌<◌, ◌≤◌, ◌∷◌, ◌++◌, length, take, drop};
 ghost use Rattle.terms.specs.Words.{word};
-ghost use Rattle.steppers.specs.Written.{size_of, child_words, round_words, made_words, Wordable, Wordable-prop, spliced};
+ghost use Rattle.steppers.specs.Written.{size_of, child_words, round_words, made_words, Wordable, Wordable-prop};
 
 use crate::action::Made;
 use crate::room::Room;
@@ -57,6 +57,8 @@ fn write_round(out: &mut Room, first: Word, again: Word, count: Word, body: &[u3
 }
 
 impl<'a> Replacement<'a> {
+    ghost use Rattle.steppers.specs.Replaced.{words_after};
+
     // The replacement of the node at the spot.
     pub fn at(term: &'a [u32], spot: Spot, by: Made) -> Replacement<'a>
         requires few { length term.now ≤ 1024 }
@@ -90,7 +92,7 @@ impl<'a> Replacement<'a> {
 
     // How many words the term has with the node replaced.
     pub fn size(&self) -> usize
-        ensures { result ≡ length (spliced self.now.front.now self.now.node.now self.now.by self.now.behind.now) }
+        ensures { result ≡ length (words_after self.now) }
     {
         self.front.len() + self.made_size() + self.behind.len()
     }
@@ -133,8 +135,8 @@ impl<'a> Replacement<'a> {
 
     // Writes the term with the node replaced.
     pub fn write(&self, out: &mut Room)
-        requires { length (spliced self.now.front.now self.now.node.now self.now.by self.now.behind.now) ≤ 1024 }
-        ensures { out.new ≡ spliced self.now.front.now self.now.node.now self.now.by self.now.behind.now }
+        requires { length (words_after self.now) ≤ 1024 }
+        ensures { out.new ≡ words_after self.now }
     {
         out.clear();
         out.append(self.front);

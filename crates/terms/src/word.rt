@@ -72,7 +72,9 @@ pub struct NoWord;
 // The word of a label and a payload, which the texts spell.
 #[tactic(auto, using(texts::proofs::Digited::number_within))]
 fn word_by(label: &str, payload: &str) -> Option<Word>
-    ensures { MatchOption result (word_by (number_of 255 label.now) (number_of 16777215 payload.now) ≡ None) (λ w. word_by (number_of 255 label.now) (number_of 16777215 payload.now) ≡ Some (word w.label w.payload)) }
+    ensures { MatchOption result
+        (word_by (number_of 255 label.now) (number_of 16777215 payload.now) ≡ None)
+        (λ w. word_by (number_of 255 label.now) (number_of 16777215 payload.now) ≡ Some (word w.label w.payload)) }
 {
     Some(Word {
         label: number(label.as_bytes(), LAST_LABEL)?,
