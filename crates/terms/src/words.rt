@@ -2,7 +2,6 @@
 ghost use Rattle.std.specs.Prelude.{◌≡◌, ◌+◌};
 ghost use Rattle.terms.specs.Words.{is_layer, node_of, arity_of, form_at, head_at};
 
-use crate::word::Word;
 pub use crate::word::{LABEL_UNIT, LAST_LABEL};
 
 pub const ATOM: u32 = 0;
@@ -98,7 +97,9 @@ fn form_node(label: u32, count: u32) -> Option<Node>
 pub fn decode(word: u32) -> Option<Node>
     ensures { result ≡ node_of word }
 {
-    let Word { label, payload } = Word::from(word);
+    // not by `Word`, which makes the end finder slower by half on wide terms
+    let label = word / LABEL_UNIT;
+    let payload = word % LABEL_UNIT;
     match label {
         ATOM => Some(Node::Atom { value: payload }),
         VARIABLE if payload < VARIABLES => Some(Node::Variable { index: payload }),

@@ -9,9 +9,6 @@ loop-call-init g c =
     let made = c.in_ok-answers.ensures in
     (none_made (g.L.Language.meaning c.args.language.now) _ _ _ _ refl made.items, refl, omega arith)
 
-pub push_reserved-requires : goal.push_reserved-requires
-push_reserved-requires g c = let next = c.in-Some.ensures.steps in omega arith
-
 pub loop-call-preserved : goal.loop-call-preserved
 loop-call-preserved g c =
     let next = c.in-Some.ensures.steps in

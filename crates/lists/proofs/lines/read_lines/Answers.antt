@@ -1,7 +1,6 @@
 use Rattle.std.proofs.Common.{◌+◌, ◌-◌, map, length, vec_items, Err, sym, refl, ap, ◌∙◌, inr, arith}
-use native.Mathlib.Nat.{sub-zero}
 use Rattle.std.specs.Option.{option_map}
-use Rattle.std.proofs.lemmas.List.{length_push, map_push, length-map}
+use Rattle.std.proofs.lemmas.List.{length_push, map_push}
 use Rattle.texts.specs.Texts.{readings}
 use Rattle.texts.specs.Pieces.{line_says}
 use Rattle.lists.specs.declared.refusal.Refusal.TheVariants.{LineBroken, LineMissing, LineExtra}
@@ -9,18 +8,9 @@ use Rattle.lists.specs.Lines.{judge_lines}
 use Rattle.lists.proofs.Judging.{line_missing, line_broken, line_extra, lines_end, line_read}
 use Rattle.lists.proofs.lines.read_lines.Goals as goal
 
-pub loop-i-init : goal.loop-i-init
-loop-i-init g c =
-    let entries = ap (map g.T.Entry.meant) c.new-entries.ensures.items in
-    (ap length entries, simp (entries, sub-zero))
-
 pub returns-in_default : goal.returns-in_default
 returns-in_default g c =
     inr (sym c.loop-i.invariant.1 ∙ line_missing _ _ _ _ c.loop-i.invariant.0 _ _ (omega arith) c.in_default.ensures ∙ ap (λ p. Err (LineMissing p)) (sym c.line_at.ensures))
-
-pub read-requires : goal.read-requires
-read-requires g c =
-    omega (arith, ap length c.deref.ensures.value, length-map (vec_items c.loop-i.entries) g.T.Entry.meant, c.loop-i.invariant.0, c.loop-i-test.true, c.ranges.count.fits)
 
 pub returns-in_default-2 : goal.returns-in_default-2
 returns-in_default-2 g c =
