@@ -23,7 +23,7 @@ pub trait Stepper {
     fn has_ended(seen: Seen) -> bool
         ensures { result ≡ table.over seen };
 
-    // What a step does at a form; the words begin with it.
+    // What a step does at a form; the words begin with it. A stepper says it by a match, with a line for each form.
     fn act(label: u32, node: &[u32], inputs: u32) -> Action
         ensures { ActsAt table.acts label node.now inputs result };
 
