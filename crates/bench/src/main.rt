@@ -18,7 +18,7 @@ const ACCEPTANCES: u32 = 5_000;
 const SEARCHES: u32 = 200_000;
 
 // How long the end finder takes on the words, in all its rounds. Each round has another last word, so that none is left out.
-fn time_end(rt: &(impl Clock + Print + AllocGlobal), words: &mut Vec<u32>) -> io::Result<Timed> {
+fn time_end(rt: &(impl Clock + Print), words: &mut Vec<u32>) -> io::Result<Timed> {
     let mut found: usize = 0;
     let mut last: u32 = 0;
     let timed = time_rounds(rt, SEARCHES, || {
@@ -37,11 +37,7 @@ fn time_end(rt: &(impl Clock + Print + AllocGlobal), words: &mut Vec<u32>) -> io
     Ok(timed)
 }
 
-fn measure_end(
-    rt: &(impl Clock + Print + AllocGlobal),
-    kind: &str,
-    words: &mut Vec<u32>,
-) -> io::Result<()> {
+fn measure_end(rt: &(impl Clock + Print), kind: &str, words: &mut Vec<u32>) -> io::Result<()> {
     let nanos = time_end(rt, words)?.nanos();
     let size = words.len();
     println!(rt;

@@ -12,7 +12,7 @@ use crate::refusal::Refusal;
 pub const SHOWN_WORDS: usize = 1024;
 
 pub trait Language {
-    // Each call ensures that it stays, in a clause of its own: what is before and after a call no invariant can say.
+    // The expansion, the step rule and the capacity. No call changes them, which each says in its own contract.
     ghost meaning: { Self → Meaning };
 
     // What is held: nothing, as when new, or one core term.

@@ -10,7 +10,7 @@ use crate::parts::{Form, Rule};
 use terms::front::is_tree;
 use terms::words::{LABEL_UNIT, Node, decode};
 
-// Beside `is_variable`, since a pattern can't be a parameter.
+// A number. This test and the next are one pattern each.
 fn is_atom(word: u32) -> bool
     ensures { result ≡ is_atom (node_of word) }
 {
@@ -69,7 +69,7 @@ fn begins(form: Form, word: u32, arguments: usize) -> bool
     is_word_of(form, word) && arguments as u64 == u64::from(form.count)
 }
 
-// The forms are in the order of their labels, and at most 32: they are looked through, as the list gives them out as a slice.
+// Whether a form is declared that a left side may begin with so. The forms, at most 32, are looked through from the first.
 fn is_declared(forms: &[Form], word: u32, arguments: usize) -> bool
     ensures { result ≡ list_any (λ f. (form_word f == word) && arguments == f.count) forms.now }
 {
@@ -110,7 +110,7 @@ fn is_repeated(behind: &[u32], word: u32) -> bool
     is_variable(word) && is_held(behind, word)
 }
 
-// No variable stands twice. A loop, since each word is compared with those behind it.
+// No variable stands twice: none of the words stands again among those behind it.
 fn once_each(words: &[u32]) -> bool
     ensures { result ≡ once_each words.now }
 {

@@ -99,7 +99,7 @@ fn rule_from(heap: Global, k: u32, numbers: &[u32]) -> Result<Option<Rule>, Allo
     Ok(Some(Rule { left, right }))
 }
 
-// The line of rule k. A match and no `and_then`, since reading the sides can run out of memory too.
+// The line of rule k. Its sides are read into memory of their own, which may run out.
 fn read_rule(heap: Global, k: u32, line: Piece<'_>) -> Result<Option<Rule>, AllocError>
     ensures { IfOk result (λ s. option_map sides_of s ≡ rule_of_line k (line_says line.entry)) }
 {

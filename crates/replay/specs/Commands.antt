@@ -23,6 +23,9 @@ words_of line = filled_of (pieces 32 line)
 abbrev pub FirstOf : List (List ℕ) → Option (Bor (List ℕ) × Bor (List ℕ)) → Type 0
 FirstOf words r = MatchOption r (words ≡ []) (λ x. words ≡ x.0.now ∷ words_of x.1.now)
 
+abbrev pub OneOf : List (List ℕ) → Option (Bor (List ℕ)) → Type 0
+OneOf words r = MatchOption r (length words ≢ 1) (λ x. words ≡ x.now ∷ [])
+
 abbrev pub TwoOf : List (List ℕ) → Option (Bor (List ℕ) × Bor (List ℕ)) → Type 0
 TwoOf words r = MatchOption r (length words ≢ 2) (λ x. words ≡ x.0.now ∷ x.1.now ∷ [])
 

@@ -16,9 +16,6 @@ IsMisuse usage (WrongWords u) = u.now ≡ usage
 IsMisuse usage (NoCore w) = ⊥
 IsMisuse usage (NoNumber w) = ⊥
 
-abbrev pub OneOf : List (List ℕ) → Option (Bor (List ℕ)) → Type 0
-OneOf words r = MatchOption r (length words ≢ 1) (λ x. words ≡ x.now ∷ [])
-
 -- the one of these words, or how the command is used if it isn't one
 abbrev pub OnlyWord : List (List ℕ) → List ℕ → Result (Bor (List ℕ)) MachineMisread → Type 0
 OnlyWord words usage r = MatchResult r (λ x. words ≡ x.now ∷ []) (λ e. (length words ≢ 1) × IsMisuse usage e)

@@ -1,6 +1,7 @@
 -- What the account says of a line, and the call that the line makes.
 use Rattle.std.specs.Prelude.{◌≡◌, ℕ, List, [], ◌∷◌, ◌++◌, replicate, Ok, Err, vec_items, codes}
 use Rattle.std.specs.Str.{IsUtf8}
+use Rattle.std.specs.Str.Pattern.{FindsCharPrefix, FindsCharSuffix, IsTrimMatches}
 use Rattle.languages.specs.declared.calls.Call.{Call}
 use Rattle.languages.specs.declared.calls.Call.TheVariants as call
 use Rattle.replay.specs.declared.command.Command.TheVariants as command
@@ -29,6 +30,22 @@ Says words (entry.List header table) = Asks words (Ok (command.List header table
 Says words entry.Held = Asks words (Ok command.Held)
 Says words (entry.Core line) = (core : Core) × AsksMachine words (Ok (machine.Core core))
 Says words (entry.Call line) = Unit {0}
+
+-- a text without the spaces (byte 32) around it
+unfoldable pub SpacesCut : List ℕ → List ℕ → Type 0
+SpacesCut text cut = IsTrimMatches (λ b o. FindsCharPrefix 32 b o) (λ b o. FindsCharSuffix 32 b o) text cut
+
+-- what an entry repeats of its line, if it repeats it, is such a text
+abbrev pub Repeats : (List ℕ → Type 0) → Entry → Type 0
+Repeats Such entry.Nothing = Unit {0}
+Repeats Such entry.NoText = Unit {0}
+Repeats Such (entry.Misread m) = Unit {0}
+Repeats Such (entry.MachineMisread m) = Unit {0}
+Repeats Such (entry.NoWord w) = Unit {0}
+Repeats Such (entry.List header table) = Unit {0}
+Repeats Such entry.Held = Unit {0}
+Repeats Such (entry.Core text) = Such text.now
+Repeats Such (entry.Call text) = Such text.now
 
 -- what the account says of a line of these bytes: only of bytes that are no text in UTF-8 that they are none
 abbrev pub SaysOfLine : List ℕ → Entry → Type 0
@@ -60,4 +77,4 @@ PlansAll [] before [] after = after ≡ before
 PlansAll [] before (e ∷ es) after = ⊥
 PlansAll (l ∷ ls) before [] after = ⊥
 PlansAll (l ∷ ls) before (e ∷ es) after =
-    (next : List Call) × SaysOfLine l e × Plans (words_of l) before e next × PlansAll ls next es after
+    (next : List Call) × SaysOfLine l e × Repeats (SpacesCut l) e × Plans (words_of l) before e next × PlansAll ls next es after

@@ -1,6 +1,6 @@
 // Tells what a line of a job asks for.
 ghost use Rattle.std.specs.Prelude.{◌≡◌, ◌∷◌, length, codes, ◌==◌};
-ghost use Rattle.replay.specs.Commands.{words_of, FirstOf, TwoOf, Asks};
+ghost use Rattle.replay.specs.Commands.{words_of, FirstOf, OneOf, TwoOf, Asks};
 
 use std::fmt;
 
@@ -55,17 +55,20 @@ pub(crate) fn is_blank(line: &str) -> bool
     next_word(line).is_none()
 }
 
-// The two words of a line that has two. Not one function with that for one word: for any number, the words would first be gathered.
+// The one word of a line that has one.
+pub(crate) fn one_word(line: &str) -> Option<&str>
+    ensures { OneOf (words_of line.now) result }
+{
+    let (word, behind) = next_word(line)?;
+    if is_blank(behind) { Some(word) } else { None }
+}
+
+// The two words of a line that has two.
 fn two_words(line: &str) -> Option<(&str, &str)>
     ensures { TwoOf (words_of line.now) result }
 {
     let (first, behind) = next_word(line)?;
-    let (second, behind) = next_word(behind)?;
-    if is_blank(behind) {
-        Some((first, second))
-    } else {
-        None
-    }
+    Some((first, one_word(behind)?))
 }
 
 fn parse_list(words: &str) -> Result<Command<'_>, Misread<'_>>
@@ -87,7 +90,7 @@ fn parse_held(words: &str) -> Result<Command<'_>, Misread<'_>>
     }
 }
 
-// The command of a line: a match on its first word, which has a line for each command.
+// The command of a line, by its first word. The match has a line for each command, which a table of functions could not say shorter.
 pub fn parse(line: &str) -> Result<Command<'_>, Misread<'_>>
     ensures { Asks (words_of line.now) result }
 {

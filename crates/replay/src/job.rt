@@ -1,4 +1,9 @@
 // The lines of a job, and which of them make a machine.
+ghost use Rattle.std.specs.Prelude.{IfSome, Ok};
+ghost use Rattle.replay.specs.Commands.{words_of};
+ghost use Rattle.replay.specs.MachineCommands.{AsksMachine};
+ghost use Rattle.replay.specs.declared.machine_command.MachineCommand.TheVariants as command;
+
 use crate::machine_command::{Core, MachineCommand, parse_machine};
 use std::io;
 use std::io::{BufRead, BufReader};
@@ -13,7 +18,9 @@ pub fn read_lines(rt: &HostRuntime) -> io::Result<Vec<Vec<u8>>> {
 }
 
 // The core language of the machine that a line makes; none for any other line.
-pub fn core_of(line: &[u8]) -> Option<Core> {
+pub fn core_of(line: &[u8]) -> Option<Core>
+    ensures { IfSome result (λ core. AsksMachine (words_of line.now) (Ok (command.Core core))) }
+{
     match parse_machine(from_utf8(line).ok()?)? {
         Ok(MachineCommand::Core(core)) => Some(core),
         _ => None,

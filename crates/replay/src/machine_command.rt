@@ -1,9 +1,9 @@
 // Tells what a line of a job asks of the machine.
 ghost use Rattle.std.specs.Prelude.{◌∷◌, MatchOption, codes};
 ghost use Rattle.replay.specs.Commands.{words_of};
-ghost use Rattle.replay.specs.MachineCommands.{OneOf, OnlyWord, NamesNoMachineCommand, AsksMachine};
+ghost use Rattle.replay.specs.MachineCommands.{OnlyWord, NamesNoMachineCommand, AsksMachine};
 
-use crate::command::{is_blank, next_word};
+use crate::command::{is_blank, next_word, one_word};
 use languages::language::SHOWN_WORDS;
 use std::fmt;
 use texts::number::number;
@@ -32,7 +32,7 @@ pub enum MachineCommand<'a> {
     Show { length: usize },
 }
 
-// Why a line that begins like a command for the machine is none. It is not one enum with `Misread`: each has only the cases that its own function answers.
+// Why a line that begins like a command for the machine is none. These are the cases of `parse_machine`, as those of `Misread` are of `parse`.
 #[derive(Clone, Copy)]
 pub enum MachineMisread<'a> {
     WrongWords { usage: &'static str },
@@ -58,14 +58,6 @@ impl fmt::Display for MachineMisread<'_> {
             }
         }
     }
-}
-
-// The one word of a line that has one.
-fn one_word(line: &str) -> Option<&str>
-    ensures { OneOf (words_of line.now) result }
-{
-    let (word, behind) = next_word(line)?;
-    if is_blank(behind) { Some(word) } else { None }
 }
 
 // The one word of a line that must have one.
@@ -108,7 +100,7 @@ fn parse_show(words: &str) -> Result<MachineCommand<'_>, MachineMisread<'_>>
     })
 }
 
-// What a line asks of the machine; none for any other line. Each command has a line of the match.
+// What a line asks of the machine; none for any other line. The match has a line for each command, as in `parse`.
 pub fn parse_machine(line: &str) -> Option<Result<MachineCommand<'_>, MachineMisread<'_>>>
     ensures { MatchOption result (NamesNoMachineCommand (words_of line.now)) (AsksMachine (words_of line.now)) }
 {

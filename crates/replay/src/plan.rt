@@ -1,9 +1,9 @@
 // Reads the lines of a stretch: what the account says of each, and the calls of the machine in order.
-ghost use Rattle.std.specs.Prelude.{List, [], ◌∷◌, map, IfOk, vec_items, codes};
+ghost use Rattle.std.specs.Prelude.{◌≡◌, List, [], ◌∷◌, map, IfOk, vec_items, codes};
 ghost use Rattle.languages.specs.declared.calls.Call.{Call};
 ghost use Rattle.replay.specs.Commands.{words_of};
 ghost use Rattle.replay.specs.MachineCommands.{NamesNoMachineCommand};
-ghost use Rattle.replay.specs.Plans.{Says, SaysOfLine, Plans, PlansAll};
+ghost use Rattle.replay.specs.Plans.{Says, Repeats, SpacesCut, SaysOfLine, Plans, PlansAll};
 
 use crate::command::{Command, Misread, parse};
 use crate::machine_command::{MachineCommand, MachineMisread, parse_machine};
@@ -44,7 +44,7 @@ fn plan_load<'a>(
     words: &'a str,
     calls: &mut Vec<Call>,
 ) -> Result<Entry<'a>, AllocError>
-    ensures { IfOk result (λ e. Says (codes "load" ∷ words_of words.now) e × Plans (codes "load" ∷ words_of words.now) calls.old.items e calls.new.items) }
+    ensures { IfOk result (λ e. Says (codes "load" ∷ words_of words.now) e × Repeats (λ t. t ≡ line.now) e × Plans (codes "load" ∷ words_of words.now) calls.old.items e calls.new.items) }
 {
     match read_words(heap, words)? {
         Ok(words) => {
@@ -58,6 +58,7 @@ fn plan_load<'a>(
 // What a line asks for that asks nothing of the machine.
 fn plan_other(line: &str) -> Entry<'_>
     ensures says { NamesNoMachineCommand (words_of line.now) → Says (words_of line.now) result }
+    ensures repeats { Repeats (λ t. ⊥) result }
     ensures plans { (calls : List Call) → Plans (words_of line.now) calls result calls }
 {
     match parse(line) {
@@ -74,7 +75,7 @@ fn plan_line<'a>(
     bytes: &'a [u8],
     calls: &mut Vec<Call>,
 ) -> Result<Entry<'a>, AllocError>
-    ensures { IfOk result (λ e. SaysOfLine bytes.now e × Plans (words_of bytes.now) calls.old.items e calls.new.items) }
+    ensures { IfOk result (λ e. SaysOfLine bytes.now e × Repeats (SpacesCut bytes.now) e × Plans (words_of bytes.now) calls.old.items e calls.new.items) }
 {
     let Ok(text) = from_utf8(bytes) else {
         return Ok(Entry::NoText);

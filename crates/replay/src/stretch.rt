@@ -12,7 +12,7 @@ use steppers::machine::Machine;
 use steppers::sequence::Sequence;
 use steppers::stepper::Stepper;
 
-// Before the first machine there is no line that tells a capacity.
+// What is handed on for the capacity before the first machine; no line there prints it.
 const NO_CAPACITY: usize = 0;
 
 // The lines before the first machine: their calls have no answers.
@@ -48,7 +48,7 @@ fn run_machine<R: Files + Print + AllocGlobal, S: Stepper + Drop>(
     run_with(account, machine, S::CAPACITY, lines)
 }
 
-// The lines of a stretch, a machine of its own type for each core language: the first names the core language of its machine, or there is none yet.
+// Runs the lines of a stretch. Each core language has a machine of its own type, so that a match tells them apart. The first line names the core language of its machine, or there is none yet.
 pub fn run_stretch<R: Files + Print + AllocGlobal>(
     account: &mut Account<'_, R>,
     lines: &[Vec<u8>],

@@ -8,8 +8,8 @@ use crate::room::Room;
 use crate::spot::Spot;
 use std::mem::swap;
 
-// Replaces the node of the term at the spot, if the term then has at most so many words; whether it has. It is written into the other room.
-// The answer is a bool, since a term that would be too long is no error: the step's answer is then Full.
+// Replaces the node of the term at the spot, if the term then has at most so many words, and answers whether it has.
+// The new term is written into `next`, and the two change places. A term that would be too long is no error: the step is then full.
 pub(crate) fn replace(term: &mut Room, next: &mut Room, spot: Spot, by: Made, most: usize) -> bool
     requires few { (length term.old ≤ 1024) × (most ≤ 1024) }
     requires within { (spot.outer ≤ spot.node) × (spot.node ≤ length term.old) }

@@ -107,6 +107,7 @@ impl Stepper for Logic {
             Some(Seen::Form(_)) => return Action::Child(0),
             None => return Action::Stuck,
         };
+        // a line for each row of the step table
         match label {
             IN => read(first, inputs),
             NOT => negate(first),

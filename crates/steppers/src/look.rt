@@ -58,7 +58,7 @@ fn form_count(word: u32) -> Option<usize>
 }
 
 // Where child i of the form that the words begin with begins.
-// Written out where it is called, for the same reason.
+// Written out where it is called, as `inside` is, since a step calls it at each level of a term.
 #[inline(always)]
 pub(crate) fn child_start(node: &[u32], i: usize) -> Option<usize>
     ensures { StartOf node.now i result }

@@ -134,6 +134,7 @@ impl Stepper for Sequence {
         let Some(first) = look_at_child(node, 0) else {
             return Action::Stuck;
         };
+        // a line for each row of the step table
         match label {
             SEQ => go_on(first),
             SET => switch(SETS, first),

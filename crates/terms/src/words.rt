@@ -93,7 +93,7 @@ fn form_node(label: u32, count: u32) -> Option<Node>
 }
 
 // The node that a word stands for; none where its label or payload has no meaning.
-// An Option, as that of `char::from_u32`, and no TryFrom: of such a word there is nothing more to say.
+// It is an Option, as `char::from_u32` gives, which every caller passes on or takes for "no such node" at once.
 pub fn decode(word: u32) -> Option<Node>
     ensures { result ≡ node_of word }
 {

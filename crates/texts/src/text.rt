@@ -56,7 +56,7 @@ fn cut(text: &[u8]) -> Piece<'_>
     }
 }
 
-// Cuts the first line off a text, if it has one.
+// The same, by what it says of the text's lines.
 fn cut_line(text: &[u8]) -> Piece<'_>
     ensures line { 0 < length text.now → NextLine text.now (Some result) }
     ensures none { length text.now ≡ 0 → NextLine text.now None }
