@@ -1,5 +1,5 @@
 // Reads a header.
-ghost use Rattle.std.specs.Prelude.{◌≡◌, ◌≤◌, [], IfOk, vec_items};
+ghost use Rattle.std.specs.Prelude.{◌≡◌, IfOk, vec_items};
 ghost use Rattle.std.specs.Option.{option_map};
 ghost use Rattle.texts.specs.Texts.{readings};
 ghost use Rattle.texts.specs.Pieces.{fields_of, line_says};

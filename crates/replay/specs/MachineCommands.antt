@@ -1,5 +1,5 @@
 -- What a line of a job asks of the machine, by its words.
-use Rattle.std.specs.Prelude.{◌≡◌, ℕ, ◌⊎◌, List, [], ◌∷◌, length, Some, None, Ok, Err, codes, Option, Result, MatchOption, MatchResult, ◌≢◌}
+use Rattle.std.specs.Prelude.{◌≡◌, ℕ, ◌⊎◌, List, [], ◌∷◌, length, Some, None, Ok, Err, codes, Result, MatchResult, ◌≢◌}
 use Rattle.std.specs.Borrow.{Bor}
 use Rattle.replay.specs.declared.machine_command.MachineCommand.{MachineCommand}
 use Rattle.replay.specs.declared.machine_command.MachineCommand.TheVariants as command

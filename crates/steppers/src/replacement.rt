@@ -1,7 +1,7 @@
 // A node of a term, and what a step puts in its place.
 ghost use Rattle.std.specs.Prelude.{◌≡◌, ◌+◌, ◌*◌, ◌<◌, ◌≤◌, ◌∷◌, ◌++◌, length, take, drop};
 ghost use Rattle.terms.specs.Words.{word};
-ghost use Rattle.steppers.specs.Written.{size_of, child_words, round_words, made_words, Wordable, Wordable-prop};
+ghost use Rattle.steppers.specs.Written.{size_of, child_words, made_words, Wordable, Wordable-prop};
 
 use crate::action::Made;
 use crate::room::Room;

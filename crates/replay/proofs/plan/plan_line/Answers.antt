@@ -1,6 +1,5 @@
 -- What an entry repeats of its line is the line without the spaces around it.
-use Rattle.std.proofs.Common.{◌≡◌, ◌∷◌, codes, rules}
-use Rattle.replay.specs.Commands.{words_of}
+use Rattle.std.proofs.Common.{rules}
 use Rattle.replay.specs.Plans.{SpacesCut}
 use Rattle.replay.proofs.Planning.{spaces_cut, load_line}
 use Rattle.replay.proofs.plan.plan_line.Goals as goal
