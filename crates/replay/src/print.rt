@@ -1,6 +1,6 @@
 // Prints the account of a job, a line for each line of the job that asks for something.
 use crate::account::{Accepted, ListLine, Outcome};
-use crate::panel::Term;
+use crate::panel::{Load, Step, Term};
 use crate::plan::Entry;
 use crate::refused::Refused;
 use crate::verdict::{Summary, decide};
@@ -81,11 +81,11 @@ impl<'a, R: Files + Print + AllocGlobal> Account<'a, R> {
     fn print_answer(&self, line: &str, answer: Answer) -> io::Result<()> {
         match answer {
             Answer::Load(answer) => {
-                let load = Outcome(answer.map(Accepted));
+                let load = Load(answer);
                 println!(self.rt; "{line}: {load}")
             }
             Answer::Step(answer) => {
-                let step = Outcome(answer);
+                let step = Step(answer);
                 println!(self.rt; "{line}: {step}")
             }
             Answer::Show(shown, buffer) => self.print_show(line, shown, &buffer),
